@@ -1,0 +1,15 @@
+pub mod Element
+pub mod Bought
+pub mod Store
+pub mod Core
+pub mod Registers
+pub mod Control
+pub mod Access
+pub mod Transfer
+pub mod Master
+pub mod Slave
+pub mod Lines
+pub mod Bench
+pub mod Records
+pub mod Log
+pub mod Play
