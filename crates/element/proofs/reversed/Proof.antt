@@ -1,0 +1,30 @@
+-- `element::reversed` meets its contract: after i turns the i last bits are reversed. Assumes nothing.
+use Prim.Native.Nat.{_-_, _≤_}
+use mathlib.Core.Path.{_≡_}
+use borrow.Author.Needs.{needs}
+use Rattle.machine.specs.Element.{reversed}
+use Rattle.element.proofs.Laws.{no-bits, bit-fits, twice-fits, one-more, all-bits, no-more-bits}
+use Rattle.element.proofs.reversed.Statement.{statement}
+use Rattle.element.proofs.reversed.Tie as tie
+
+abbrev Inv-loop : tie.InvT-loop
+Inv-loop n x got₀ i₀ got i = (got ≡ reversed i x) × ((i ≤ n) × (i ≤ 32))
+
+abbrev μ-loop : tie.MeasureT-loop
+μ-loop n x got₀ i₀ got i = n - i
+
+pub reversed-spec : {M : Type 1} → statement M
+reversed-spec =
+    tie.close
+    (tie.spec
+    Inv-loop
+    μ-loop
+    (λ c. (search no-bits, search needs))
+    (λ c. record { fits = search twice-fits })
+    (λ c. search needs)
+    (λ c. record { fits = search bit-fits })
+    (λ c. search needs)
+    (λ c. search needs)
+    (λ c. (search one-more, search needs))
+    (λ c. search all-bits)
+    (λ c. search no-more-bits))
