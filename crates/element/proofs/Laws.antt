@@ -51,15 +51,8 @@ module _ (x got i : ℕ) (is : got ≡ reversed i x) where
     unfolding reversed
     one-more = rw (add-one, is)
 
-  pub all-bits : (n : ℕ) → i ≤ n → n ≤ i → i ≤ 32 → got ≡ reversed (min n 32) x
-  all-bits n most least small =
-      let all : i ≡ min n 32 = omega arith in
-      rw all at is
-
-  pub no-more-bits : (n : ℕ) → i < n → 32 ≤ i → i ≤ 32 → got ≡ reversed (min n 32) x
-  no-more-bits n more least most =
-      let all : i ≡ min n 32 = omega arith in
-      rw all at is
+  pub all-bits : (n : ℕ) → i ≡ min n 32 → got ≡ reversed (min n 32) x
+  all-bits n all = rw all at is
 
 pub no-bits : (x : ℕ) → 0 ≡ reversed 0 x
 unfolding reversed

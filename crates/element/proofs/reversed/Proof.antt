@@ -2,8 +2,9 @@
 use Prim.Native.Nat.{_-_, _≤_}
 use mathlib.Core.Path.{_≡_}
 use borrow.Author.Needs.{needs}
+use native.Mathlib.Omega.{arith}
 use Rattle.machine.specs.Element.{reversed}
-use Rattle.element.proofs.Laws.{no-bits, bit-fits, twice-fits, one-more, all-bits, no-more-bits}
+use Rattle.element.proofs.Laws.{no-bits, bit-fits, twice-fits, one-more, all-bits}
 use Rattle.element.proofs.reversed.Statement.{statement}
 use Rattle.element.proofs.reversed.Tie as tie
 
@@ -26,5 +27,5 @@ reversed-spec =
     (λ c. search needs)
     (λ c. search needs)
     (λ c. (search one-more, search needs))
-    (λ c. search all-bits)
-    (λ c. search no-more-bits))
+    (λ c. let l = c .before .loop in all-bits _ _ _ (l .inv .0) _ (omega arith))
+    (λ c. let l = c .before .before .loop in all-bits _ _ _ (l .inv .0) _ (omega arith)))
