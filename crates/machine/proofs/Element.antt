@@ -1,13 +1,12 @@
 -- The laws of bits and of `reversed`, over the width. Assumes nothing.
-use mathlib.Core.Path.{_≡_, refl, sym, ap, _∙_}
+use mathlib.Core.Path.{_≡_, refl, sym, _∙_}
 use mathlib.Core.Bool.{Bool, true, false}
 use Prim.Native.Nat.{ℕ, zero, suc, _+_, _-_, _*_, _/_, _%_, _^_, _<_}
-use native.Mathlib.Nat.{div-div-eq-div-mul, pow-suc, pow-succ', div-one, div-eq-of-lt, mod-one, mod-eq-of-lt, zero-div}
+use native.Mathlib.Nat.{div-div-eq-div-mul, pow-suc, pow-succ', div-one, mod-one, mod-eq-of-lt, zero-div}
 use native.Mathlib.Numerals.{one-add}
 use native.Mathlib.Omega.{arith}
 use lib.Dec.{eqb}
 use lib.Pow.{mod-pow-add}
-use borrow.Author.Tests.{eq-eqb, ne-eqb}
 use Rattle.machine.specs.Element.{bitOf, levelOf, numberOf, reversed, wire}
 
 -- ---- bits

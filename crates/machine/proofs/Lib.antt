@@ -1,2 +1,3 @@
+mod Agree
 pub mod Element
 mod Table

@@ -1,6 +1,5 @@
 -- "When the bus says SLVERR": reads and writes of the registers, and their refusals. Assumes nothing.
 use mathlib.Core.Bool.{Bool, false, _&&_, cond}
-use mathlib.Core.List.{List, [], _∷_, _++_}
 use Prim.Native.Nat.{ℕ, zero, suc, _+_, _-_, _%_, _^_}
 use lib.Dec.{leb, eqb}
 use Rattle.machine.specs.declared.Register.{Register}
@@ -12,14 +11,14 @@ use Rattle.machine.specs.declared.Access.{Access}
 use Rattle.machine.specs.declared.Access.the-variants.{Write, Read}
 use Rattle.machine.specs.declared.Answer.{Answer}
 use Rattle.machine.specs.declared.Answer.the-variants.{Okay, LanesOrOffset, NoRegister, TxFull, RxEmpty, ResetValue, TwoSelected}
-use Rattle.machine.specs.Element.{bitOf, elementOf, wordOf}
+use Rattle.machine.specs.Element.{bitOf, elementOf}
 use Rattle.machine.specs.Bought.{bitsOf, linesOf, roomOf}
 use Rattle.machine.specs.Store.{empty, full, first, rest, added, occupancy}
-use Rattle.machine.specs.Core.{Held, Core, keep, reset}
-use Rattle.machine.specs.Registers.{lookup, placeOf, controlWord, modeOf, statusWord, interruptWord, interruptsOf, toggled, globalWord, globalOf}
+use Rattle.machine.specs.Core.{Core, keep, flagged}
+use Rattle.machine.specs.Registers.{placeOf, controlWord, statusWord, interruptWord, interruptsOf, toggled, globalWord, globalOf}
 use Rattle.machine.specs.Control.{controlled, resetAgain}
 
--- the refusals' numbers; 0 where there is none
+-- the refusals' numbers; 0 where there is none. "DECERR is never issued (003)."
 abbrev pub refusalNumber : Answer → ℕ
 refusalNumber (Okay v) = 0
 refusalNumber LanesOrOffset = 10
@@ -52,16 +51,15 @@ accept v c = record { answer = Okay v; core = c }
 
 -- ---- writes
 
-abbrev pub flagged : Flags → Core → Core
-flagged f c = keep (record { tx = c .held .tx; rx = c .held .rx; flags = f }) c
-
 -- IPISR: "writing 1 to a bit toggles it"
 abbrev pub toggle : ℕ → Flags → Flags
 toggle v f = record { ipisr = toggled (f .ipisr) (interruptsOf v); ipier = f .ipier; dgier = f .dgier; modf = f .modf }
 
+-- IPIER "bits 0 to 8"
 abbrev pub allow : ℕ → Flags → Flags
 allow v f = record { ipisr = f .ipisr; ipier = interruptsOf v; dgier = f .dgier; modf = f .modf }
 
+-- DGIER "bit 31 only"
 abbrev pub allowAll : ℕ → Flags → Flags
 allowAll v f = record { ipisr = f .ipisr; ipier = f .ipier; dgier = globalOf v; modf = f .modf }
 
@@ -72,7 +70,7 @@ writeTx v c =
     (accept 0
     (keep
     (record {
-      tx = c .held .tx ++ (elementOf (bitsOf (c .setup)) v ∷ []);
+      tx = added (roomOf (c .setup)) (c .held .tx) (elementOf (bitsOf (c .setup)) v);
       rx = c .held .rx;
       flags = c .held .flags;
     })
@@ -159,7 +157,7 @@ readFrom Spissr c = accept (c .select) c
 readFrom TxOccupancy c = accept (occupancy (c .held .tx)) c
 readFrom RxOccupancy c = accept (occupancy (c .held .rx)) c
 
--- ---- the order of the refusals: 10, 11, then the register's own
+-- ---- "Checked in this order": 10, 11, then the register's own
 
 -- 10: "lanes other than 15, or offset not a multiple of 4"
 abbrev pub wholeWord : ℕ → ℕ → Bool

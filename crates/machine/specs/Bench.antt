@@ -1,15 +1,13 @@
 -- "The joined bench": a master, and a slave that is number 0 and gets the master's lines. Assumes nothing.
-use mathlib.Core.Bool.{Bool, true, false, _&&_, cond}
+use mathlib.Core.Bool.{Bool, not, _&&_, _||_, cond}
 use Prim.Native.Nat.{ℕ, zero, suc, _+_}
-use Rattle.machine.specs.declared.Transfer.{Transfer}
-use Rattle.machine.specs.declared.Transfer.the-variants.{Idle, Moving, Gap}
+use lib.Dec.{eqb}
 use Rattle.machine.specs.declared.Levels.{Levels}
 use Rattle.machine.specs.declared.Outputs.{Outputs}
 use Rattle.machine.specs.declared.Outcome.{Outcome}
 use Rattle.machine.specs.declared.Outcome.the-variants.{Nothing}
 use Rattle.machine.specs.declared.Access.{Access}
 use Rattle.machine.specs.declared.Answer.{Answer}
-use Rattle.machine.specs.declared.Answer.the-variants.{Okay, LanesOrOffset, NoRegister, TxFull, RxEmpty, ResetValue, TwoSelected}
 use Rattle.machine.specs.declared.Side.{Side}
 use Rattle.machine.specs.declared.Side.the-variants.{Master, Slave}
 use Rattle.machine.specs.declared.Ended.{Ended}
@@ -17,10 +15,10 @@ use Rattle.machine.specs.declared.Ended.the-variants.{Drained, LimitSpen
 use Rattle.machine.specs.Element.{levelOf}
 use Rattle.machine.specs.Store.{empty}
 use Rattle.machine.specs.Core.{Core, Stepped}
-use Rattle.machine.specs.Access.{Answered, access, read, write}
+use Rattle.machine.specs.Access.{refusalNumber, access, read, write}
 use Rattle.machine.specs.Master.{tick}
 use Rattle.machine.specs.Slave.{lineStep}
-use Rattle.machine.specs.Lines.{outputs}
+use Rattle.machine.specs.Lines.{isIdle, outputs}
 
 pub record Bench : Type 0 where
   pub master : Core
@@ -28,14 +26,14 @@ pub record Bench : Type 0 where
 
 -- ---- the slave gets the master's lines
 
--- the lines that reach slave number i: select line i, SCK and MOSI
+-- "The slave is number 0; the master gets no line step": the lines that reach slave number i are select line i, SCK and MOSI
 abbrev pub linesTo : ℕ → Outputs → Levels
 linesTo i o = record { spisel = levelOf (o .ss) i; sck = o .sck; mosi = o .mosi }
 
 abbrev pub given : Core → Core → Stepped
 given m s = lineStep (linesTo 0 (outputs m)) s
 
--- "it gets them when joined ..; that step's outcome and element are in the answer"
+-- "it gets them when joined .., and that step's outcome and element are in the answer"
 pub record Joined : Type 0 where
   pub step : Outcome
   pub bench : Bench
@@ -47,6 +45,14 @@ unfoldable pub join : Core → Core → Joined
 unfolding lineStep outputs
 join m s = joinedWith m (given m s)
 
+-- "A slave in step is neither sitting out nor in mid-element"
+abbrev pub isInStep : Core → Bool
+isInStep s = not (s .sitting) && isIdle (s .transfer)
+
+-- "selected means SPISSR bit 0 is low, and in manual mode SPISEL is low already"
+abbrev pub isSelected : Bench → Bool
+isSelected b = not (levelOf (b .master .select) 0) && (not (b .master .mode .manual) || not (b .slave .seen .spisel))
+
 -- ---- accesses
 
 pub record BenchAnswered : Type 0 where
@@ -55,13 +61,7 @@ pub record BenchAnswered : Type 0 where
   pub bench : Bench
 
 abbrev pub isAccepted : Answer → Bool
-isAccepted (Okay v) = true
-isAccepted LanesOrOffset = false
-isAccepted NoRegister = false
-isAccepted TxFull = false
-isAccepted RxEmpty = false
-isAccepted ResetValue = false
-isAccepted TwoSelected = false
+isAccepted a = eqb (refusalNumber a) 0
 
 abbrev pub answeredWith : Answer → Joined → BenchAnswered
 answeredWith a j = record { answer = a; step = j .step; bench = j .bench }
@@ -98,11 +98,6 @@ tickBench b =
 
 -- ---- runs
 
-abbrev pub isIdle : Transfer → Bool
-isIdle Idle = true
-isIdle (Moving s) = false
-isIdle Gap = false
-
 -- "the master is idle with an empty Tx store"
 abbrev pub isDrained : Core → Bool
 isDrained m = isIdle (m .transfer) && empty (m .held .tx)
@@ -116,7 +111,7 @@ abbrev pub ranTo : Ended → ℕ → Bench → Ran
 ranTo e used b = record { ended = e; used = used; bench = b }
 
 -- "A run goes on until the master is idle with an empty Tx store, or its limit of ticks is spent; the answer says which (the first
--- wins when both hold)": the ticks left of the limit, and those used
+-- wins when both hold), and the number of ticks used is part of the answer": the ticks left of the limit, and those used
 unfoldable pub runFrom : ℕ → ℕ → Bench → Ran
 runFrom zero used b = ranTo (cond (isDrained (b .master)) Drained LimitSpent) used b
 runFrom (suc left) used b =

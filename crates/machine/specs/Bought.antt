@@ -1,5 +1,5 @@
 -- "The core as bought": what setup allows, and the numbers that follow from it. Assumes nothing.
-use mathlib.Core.Bool.{Bool, true, false, not, _&&_, _||_, cond}
+use mathlib.Core.Bool.{Bool, not, _&&_, _||_, cond}
 use Prim.Native.Nat.{ℕ, zero, suc, _+_, _/_, min}
 use lib.Dec.{leb, eqb}
 use Rattle.machine.specs.declared.Setup.{Setup}
@@ -32,14 +32,14 @@ setupNumber Width = 1
 setupNumber Depth = 2
 setupNumber Slaves = 3
 
--- N and K. The bounds change nothing that setup allows; they give a meaning to every other value of the type
+-- N and K. The bounds change nothing that setup allows: an element and the select lines are 32 bits at most
 abbrev pub bitsOf : Setup → ℕ
 bitsOf z = min (z .width) 32
 
 abbrev pub linesOf : Setup → ℕ
 linesOf z = min (z .slaves) 32
 
--- "at depth 0 each store holds one element"; 256 as above
+-- "at depth 0 each store holds one element"; a store has 256 cells at most
 abbrev pub holds : ℕ → ℕ
 holds zero = 1
 holds (suc d) = min (suc d) 256
@@ -51,6 +51,7 @@ roomOf z = holds (z .depth)
 abbrev pub hasFifo : Setup → Bool
 hasFifo z = not (eqb (z .depth) 0)
 
--- IPISR bit 6: "(depth 16: a finish takes 9 elements to 8, ..)": from one more than half the depth
+-- IPISR bit 6: "(depth 16: a finish takes 9 elements to 8, that is the occupancy register from 8 to 7)": from one more than half the
+-- depth
 abbrev pub overHalf : Setup → ℕ
 overHalf z = z .depth / 2 + 1

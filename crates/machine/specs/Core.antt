@@ -1,5 +1,5 @@
 -- One core: what it holds between two calls, and its power-on values. Assumes nothing.
-use mathlib.Core.Bool.{Bool, true, false, not, _&&_, cond}
+use mathlib.Core.Bool.{Bool, true, false, not, _&&_}
 use mathlib.Core.List.{List, []}
 use Prim.Native.Nat.{ℕ, _-_, _^_}
 use Rattle.machine.specs.declared.Setup.{Setup}
@@ -11,9 +11,11 @@ use Rattle.machine.specs.declared.Transfer.{Transfer}
 use Rattle.machine.specs.declared.Transfer.the-variants.{Idle}
 use Rattle.machine.specs.declared.Outcome.{Outcome}
 use Rattle.machine.specs.declared.Outcome.the-variants.{Nothing, MovedOn, Stored, Lost, Starved, Abandoned}
-use Rattle.machine.specs.Bought.{linesOf}
+use Rattle.machine.specs.declared.Bought.{Bought}
+use Rattle.machine.specs.declared.Bought.the-variants.{Allowed, Width, Depth, Slaves}
+use Rattle.machine.specs.Bought.{linesOf, bought, setupNumber}
 
--- the two stores and the flags: what a finish works on, and every access but control, select and reset writes
+-- the two stores and the flags: all that a finish changes, and all that an access changes that is no control, select or reset write
 pub record Held : Type 0 where
   pub tx : List ℕ
   pub rx : List ℕ
@@ -26,7 +28,7 @@ pub record Core : Type 0 where
   pub select : ℕ
   pub held : Held
   pub transfer : Transfer
-  -- the level that MOSI holds
+  -- "MOSI holds its last level, 0 after reset."
   pub mosi : Bool
   -- the line levels seen last
   pub seen : Levels
@@ -45,7 +47,8 @@ pub record Stepped : Type 0 where
   pub outcome : Outcome
   pub core : Core
 
--- "Outcomes: 0 nothing, 1 moved on (..), 2 finished and stored, 3 finished and lost, 4 started starved, 5 abandoned by SPISEL."
+-- "Outcomes: 0 nothing, 1 moved on (start, gap or a counted edge with no other outcome), 2 finished and stored, 3 finished and
+-- lost, 4 started starved, 5 abandoned by SPISEL."
 abbrev pub outcomeNumber : Outcome → ℕ
 outcomeNumber Nothing = 0
 outcomeNumber MovedOn = 1
@@ -91,8 +94,9 @@ noInterrupts = record {
   arrived = false;
 }
 
-abbrev pub emptied : Held
-emptied = record {
+-- the stores empty, IPISR, IPIER, DGIER and MODF 0 (000, Table 4): so SPISR is "reset 0x25"
+abbrev pub nothingHeld : Held
+nothingHeld = record {
   tx = [];
   rx = [];
   flags = record { ipisr = noInterrupts; ipier = noInterrupts; dgier = false; modf = false };
@@ -108,7 +112,7 @@ reset z seen = record {
   setup = z;
   mode = resetMode;
   select = noneSelected z;
-  held = emptied;
+  held = nothingHeld;
   transfer = Idle;
   mosi = false;
   seen = seen;
@@ -119,6 +123,21 @@ reset z seen = record {
 unfoldable pub powerOn : Setup → Core
 unfolding reset
 powerOn z = reset z (record { spisel = true; sck = false; mosi = false })
+
+-- "Setup refusals, in order, yield no core": a core at power-on, or the refusal's number
+pub data Made : Type 0 where
+  made : Core → Made
+  refused : ℕ → Made
+
+abbrev pub madeOf : Bought → Made
+madeOf (Allowed z) = made (powerOn z)
+madeOf Width = refused (setupNumber Width)
+madeOf Depth = refused (setupNumber Depth)
+madeOf Slaves = refused (setupNumber Slaves)
+
+unfoldable pub setup : ℕ → ℕ → ℕ → Made
+unfolding bought powerOn
+setup n d k = madeOf (bought n d k)
 
 -- ---- a core with some of its parts new
 
@@ -136,6 +155,9 @@ move h t mosi c = record {
 
 abbrev pub keep : Held → Core → Core
 keep h c = move h (c .transfer) (c .mosi) c
+
+abbrev pub flagged : Flags → Core → Core
+flagged f c = keep (record { tx = c .held .tx; rx = c .held .rx; flags = f }) c
 
 abbrev pub still : Core → Stepped
 still c = record { outcome = Nothing; core = c }

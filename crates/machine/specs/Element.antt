@@ -34,7 +34,7 @@ abbrev pub wire : Bool → ℕ → ℕ → ℕ
 wire false n x = x
 wire true n x = reversed n x
 
--- the first bit on the wire
+-- the first bit on the wire: the top one, as elements go MSB first unless SPICR bit 9 turns them (000, Table 6)
 abbrev pub firstLevel : ℕ → ℕ → Bool
 firstLevel zero x = false
 firstLevel (suc k) x = levelOf x k

@@ -1,13 +1,13 @@
 -- The lines that a core shows. Assumes nothing.
 use mathlib.Core.Bool.{Bool, true, false, not, _&&_, _||_, cond}
-use Prim.Native.Nat.{ℕ}
+use Prim.Native.Nat.{ℕ, _%_, _^_}
 use Rattle.machine.specs.declared.Transfer.{Transfer}
 use Rattle.machine.specs.declared.Transfer.the-variants.{Idle, Moving, Gap}
 use Rattle.machine.specs.declared.Outputs.{Outputs}
 use Rattle.machine.specs.Element.{firstLevel}
-use Rattle.machine.specs.Bought.{bitsOf}
+use Rattle.machine.specs.Bought.{bitsOf, linesOf}
 use Rattle.machine.specs.Core.{Core, isMaster, noneSelected}
-use Rattle.machine.specs.Registers.{differ, isSelected, interruptLine}
+use Rattle.machine.specs.Registers.{differ, isDriving, interruptLine}
 use Rattle.machine.specs.Transfer.{headOnWire, sending}
 
 abbrev pub atOdd : Transfer → Bool
@@ -15,19 +15,22 @@ atOdd Idle = false
 atOdd (Moving s) = s .odd
 atOdd Gap = false
 
-abbrev pub isBusy : Transfer → Bool
-isBusy Idle = false
-isBusy (Moving s) = true
-isBusy Gap = true
+abbrev pub isIdle : Transfer → Bool
+isIdle Idle = true
+isIdle (Moving s) = false
+isIdle Gap = false
 
 -- "SCK rests at CPOL." "Odd edges leave the idle level CPOL, even ones return."
 abbrev pub sckOf : Core → Bool
 sckOf c = differ (c .mode .cpol) (isMaster (c .mode) && atOdd (c .transfer))
 
 -- "SS lines are all high unless the core is an enabled master; then they show SPISSR, in automatic mode only from start tick until
--- the gap tick or an abandonment raises them."
+-- the gap tick or an abandonment raises them." "SS 4 (bits from K up are 0)"
 abbrev pub ssOf : Core → ℕ
-ssOf c = cond (isMaster (c .mode) && (c .mode .manual || isBusy (c .transfer))) (c .select) (noneSelected (c .setup))
+ssOf c =
+    cond (isMaster (c .mode) && (c .mode .manual || not (isIdle (c .transfer))))
+    (c .select % 2 ^ linesOf (c .setup))
+    (noneSelected (c .setup))
 
 -- "Between elements MISO shows the first bit of the Tx head at CPHA 0 (0 if empty), and 0 at CPHA 1."
 abbrev pub misoBetween : Core → Bool
@@ -41,7 +44,7 @@ misoAt Gap c = misoBetween c
 
 -- "and 0 while sitting out." "MISO is driven exactly while an enabled slave has SPISEL low; undriven it reads 1."
 abbrev pub misoOf : Core → Bool
-misoOf c = cond (isSelected c) (not (c .sitting) && misoAt (c .transfer) c) true
+misoOf c = cond (isDriving c) (not (c .sitting) && misoAt (c .transfer) c) true
 
 unfoldable pub outputs : Core → Outputs
 unfolding sending interruptLine
@@ -50,6 +53,6 @@ outputs c = record {
   mosi = c .mosi;
   miso = misoOf c;
   interrupt = interruptLine (c .held .flags);
-  driven = isSelected c;
+  driven = isDriving c;
   ss = ssOf c;
 }

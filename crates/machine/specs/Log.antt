@@ -23,12 +23,15 @@ unfoldable pub linesByte : Outputs → ℕ
 unfolding wordOf
 linesByte o = wordOf (o .sck ∷ o .mosi ∷ o .miso ∷ o .interrupt ∷ o .driven ∷ [])
 
--- "Log kind is script kind + 0x8000. Setup: one byte 0. Access: refusal 1, value 4 (0 for writes). Tick and step: outcome 1, element
--- 4, lines 1 (..), SS 4"
-unfoldable pub entryBytes : Entry → List ℕ
-entryBytes Setup = recordOf 0x8000 (0 ∷ [])
-entryBytes (Access kind refusal value) = recordOf (kind + 0x8000) (refusal ∷ quad value)
-entryBytes (Step kind outcome element lines ss) = recordOf (kind + 0x8000) ((outcome ∷ quad element) ++ (lines ∷ quad ss))
+-- "Setup: one byte 0. Access: refusal 1, value 4 (0 for writes). Tick and step: outcome 1, element 4, lines 1 (..), SS 4"
+abbrev pub entryPayload : Entry → List ℕ
+entryPayload Setup = 0 ∷ []
+entryPayload (Access refusal value) = refusal ∷ quad value
+entryPayload (Step outcome element lines ss) = (outcome ∷ quad element) ++ (lines ∷ quad ss)
+
+-- "Log kind is script kind + 0x8000."
+unfoldable pub entryBytes : ℕ → Entry → List ℕ
+entryBytes kind e = recordOf (kind + 0x8000) (entryPayload e)
 
 -- "and then a record of kind 0xFFFF: number 1, place 4"
 unfoldable pub lastRecord : ℕ → ℕ → List ℕ

@@ -20,7 +20,7 @@ started s c = record {
   core = move (c .held) (Moving s) (cond (c .mode .cpha) (c .mosi) (firstLevel (s .left) (s .out))) c;
 }
 
--- "An enabled master that is idle, not inhibited and has an element starts"
+-- "An enabled master that is idle, not inhibited and has an element starts"; "SS never decides whether a master starts."
 abbrev pub startAt : Bool → List ℕ → Core → Stepped
 startAt true tx c = still c
 startAt false [] c = still c
@@ -36,17 +36,17 @@ ranAt (Over got) s c =
       core = move (finish (c .setup) false (s .starved) x (c .held)) Gap (changed (c .mode .cpha) s (c .mosi)) c;
     }
 
--- "Loop makes a master sample its own MOSI"
+-- "Loop makes a master sample its own MOSI; without the master bit it does nothing."
 abbrev pub heard : Bool → Core → Bool
 heard miso c = cond (c .mode .loopback) (c .mosi) miso
 
--- "a start tick, then 2N edge ticks, then one gap tick"
+-- "a start tick, then 2N edge ticks, then one gap tick. Idle to idle is 2N+2 ticks."
 abbrev pub tickAt : Transfer → Bool → Core → Stepped
 tickAt Idle miso c = startAt (c .mode .inhibit) (c .held .tx) c
 tickAt (Moving s) miso c = ranAt (edge (c .mode .cpha) (bitsOf (c .setup)) (heard miso c) s) s c
 tickAt Gap miso c = record { outcome = MovedOn; core = move (c .held) Idle (c .mosi) c }
 
--- "Ticking any other core changes nothing."
+-- "A tick is half an SCK period and carries the MISO level standing before it." "Ticking any other core changes nothing."
 unfoldable pub tick : Bool → Core → Stepped
 unfolding decided edge changed
 tick miso c = cond (isMaster (c .mode)) (tickAt (c .transfer) miso c) (still c)

@@ -4,23 +4,19 @@ use mathlib.Core.List.{List, [], _++_}
 use Prim.Native.Nat.{ℕ, zero, suc, _+_, _-_}
 use lib.ListN.{length}
 use lib.Dec.{ltb, eqb}
-use Rattle.machine.specs.declared.Bought.{Bought}
-use Rattle.machine.specs.declared.Bought.the-variants.{Allowed, Width, Depth, Slaves}
 use Rattle.machine.specs.declared.Found.{Found}
 use Rattle.machine.specs.declared.Found.the-variants.{Whole, CutShort, End}
 use Rattle.machine.specs.declared.Command.{Command}
 use Rattle.machine.specs.declared.Command.the-variants.{Setup, Write, Read, Tick, LineStep, Unknown}
 use Rattle.machine.specs.declared.Levels.{Levels}
-use Rattle.machine.specs.declared.Entry.{Entry}
 use Rattle.machine.specs.declared.Entry.the-variants as entry
 use Rattle.machine.specs.Element.{levelOf}
-use Rattle.machine.specs.Bought.{bought}
-use Rattle.machine.specs.Core.{Core, Stepped, powerOn, outcomeNumber, outcomeElement}
+use Rattle.machine.specs.Core.{Core, Stepped, Made, made, refused, setup, outcomeNumber, outcomeElement}
 use Rattle.machine.specs.Access.{Answered, refusalNumber, answerValue, read, write}
 use Rattle.machine.specs.Master.{tick}
 use Rattle.machine.specs.Slave.{lineStep}
 use Rattle.machine.specs.Lines.{outputs}
-use Rattle.machine.specs.Records.{find, payload, command, judge}
+use Rattle.machine.specs.Records.{find, payload, command, kindNumber, judge}
 use Rattle.machine.specs.Log.{linesByte, entryBytes, lastRecord}
 
 -- ---- carrying out a record
@@ -38,19 +34,18 @@ pub record Carried : Type 0 where
   pub stage : Stage
   pub log : List ℕ
 
--- what the log says of an access, and of a tick or line step
+-- what the log says of an access, and of a tick or line step. "Access refusals are logged and don't stop a script."
 abbrev pub accessed : ℕ → Answered → Carried
 accessed kind r = record {
   stage = running (r .core);
-  log = entryBytes (entry.Access kind (refusalNumber (r .answer)) (answerValue (r .answer)));
+  log = entryBytes kind (entry.Access (refusalNumber (r .answer)) (answerValue (r .answer)));
 }
 
 abbrev pub stepped : ℕ → Stepped → Carried
 stepped kind r = record {
   stage = running (r .core);
-  log = entryBytes
+  log = entryBytes kind
       (entry.Step
-      kind
       (outcomeNumber (r .outcome))
       (outcomeElement (r .outcome))
       (linesByte (outputs (r .core)))
@@ -61,26 +56,24 @@ stepped kind r = record {
 abbrev pub levelsOf : ℕ → Levels
 levelsOf b = record { spisel = levelOf b 0; sck = levelOf b 1; mosi = levelOf b 2 }
 
-abbrev pub setUp : Bought → Carried
-setUp (Allowed z) = record { stage = running (powerOn z); log = entryBytes entry.Setup }
-setUp Width = record { stage = bare; log = [] }
-setUp Depth = record { stage = bare; log = [] }
-setUp Slaves = record { stage = bare; log = [] }
+abbrev pub setUp : ℕ → Made → Carried
+setUp kind (made c) = record { stage = running c; log = entryBytes kind entry.Setup }
+setUp kind (refused n) = record { stage = bare; log = [] }
 
 -- a setup makes the core, and the rest asks it. What `judge` stops is not carried out
 unfoldable pub carry : Stage → Command → Carried
-unfolding bought powerOn read write tick lineStep outputs linesByte entryBytes
-carry bare (Setup w d k) = setUp (bought w d k)
+unfolding setup read write tick lineStep outputs linesByte entryBytes
+carry bare (Setup w d k) = setUp (kindNumber (Setup w d k)) (setup w d k)
 carry bare (Write o l v) = record { stage = bare; log = [] }
 carry bare (Read o l) = record { stage = bare; log = [] }
 carry bare (Tick m) = record { stage = bare; log = [] }
 carry bare (LineStep l) = record { stage = bare; log = [] }
 carry bare (Unknown kind) = record { stage = bare; log = [] }
 carry (running c) (Setup w d k) = record { stage = running c; log = [] }
-carry (running c) (Write o l v) = accessed 1 (write o l v c)
-carry (running c) (Read o l) = accessed 2 (read o l c)
-carry (running c) (Tick m) = stepped 3 (tick (eqb m 1) c)
-carry (running c) (LineStep l) = stepped 4 (lineStep (levelsOf l) c)
+carry (running c) (Write o l v) = accessed (kindNumber (Write o l v)) (write o l v c)
+carry (running c) (Read o l) = accessed (kindNumber (Read o l)) (read o l c)
+carry (running c) (Tick m) = stepped (kindNumber (Tick m)) (tick (eqb m 1) c)
+carry (running c) (LineStep l) = stepped (kindNumber (LineStep l)) (lineStep (levelsOf l) c)
 carry (running c) (Unknown kind) = record { stage = running c; log = [] }
 
 -- ---- record after record
@@ -148,7 +141,7 @@ play script room limit =
 
 -- ---- the program
 
--- "lends room enough for any log and a limit of 4,096 records"
+-- "The program reads standard input, lends room enough for any log and a limit of 4,096 records (no script within 25 can spend it)"
 abbrev pub programRoom : ℕ
 programRoom = 65536
 

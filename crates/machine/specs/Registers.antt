@@ -1,6 +1,6 @@
 -- The registers: their offsets, the bits of their words, and the interrupt line. Assumes nothing.
 use mathlib.Core.Bool.{Bool, true, false, not, _&&_, _||_, cond}
-use mathlib.Core.List.{List, [], _∷_, _++_}
+use mathlib.Core.List.{List, [], _∷_}
 use Prim.Native.Nat.{ℕ, _*_, _^_}
 use lib.Dec.{eqb}
 use Rattle.machine.specs.declared.Setup.{Setup}
@@ -16,7 +16,11 @@ use Rattle.machine.specs.Bought.{roomOf, hasFifo}
 use Rattle.machine.specs.Store.{empty, full}
 use Rattle.machine.specs.Core.{Core, isSlave}
 
--- the table of offsets (000, Table 4); the occupancy registers are there at depth 16 only
+-- "0x74, 0x78 .. depth 16 only"
+abbrev pub fifoRegisters : List (ℕ × Register)
+fifoRegisters = (0x74, TxOccupancy) ∷ (0x78, RxOccupancy) ∷ []
+
+-- the table of offsets (000, Table 4)
 abbrev pub registers : Setup → List (ℕ × Register)
 registers z =
     (0x1C, Dgier)
@@ -28,20 +32,21 @@ registers z =
     ∷ (0x68, Spidtr)
     ∷ (0x6C, Spidrr)
     ∷ (0x70, Spissr)
-    ∷ cond (hasFifo z) ((0x74, TxOccupancy) ∷ (0x78, RxOccupancy) ∷ []) []
+    ∷ cond (hasFifo z) fifoRegisters []
 
 unfoldable pub lookup : List (ℕ × Register) → ℕ → Place
 lookup [] offset = place.Nothing
 lookup (row ∷ rows) offset = cond (eqb offset (row .0)) (place.Register (row .1)) (lookup rows offset)
 
--- the register that answers at an offset
+-- the register that answers at an offset; 11 "no register there (0x74 and 0x78 at depth 0 included)"
 unfoldable pub placeOf : Setup → ℕ → Place
 unfolding lookup
 placeOf z offset = lookup (registers z) offset
 
 -- ---- SPICR (000, Table 6)
 
--- "Writing 1 to bit 5 or 6 empties that store ..; both read 0"
+-- "SPICR bits: 0 loop, 1 enable, 2 master, 3 CPOL, 4 CPHA, 5 Tx FIFO reset, 6 Rx FIFO reset, 7 manual select, 8 master inhibit,
+-- 9 LSB first." Bits 5 and 6: "both read 0". "Reserved bits are ignored on writing and read 0."
 unfoldable pub controlWord : Mode → ℕ
 unfolding wordOf
 controlWord m =
@@ -78,10 +83,11 @@ modeOf v = record {
 
 -- ---- SPISR (000, Table 7)
 
--- an enabled slave that has SPISEL low: bit 5 "is 0 exactly while", and so long MISO is driven
-abbrev pub isSelected : Core → Bool
-isSelected c = isSlave (c .mode) && not (c .seen .spisel)
+-- SPISR bit 5 "is 0 exactly while an enabled slave has SPISEL low"; "MISO is driven exactly while" that is so
+abbrev pub isDriving : Core → Bool
+isDriving c = isSlave (c .mode) && not (c .seen .spisel)
 
+-- "SPISR bits: 0 Rx empty, 1 Rx full, 2 Tx empty, 3 Tx full, 4 MODF, 5 .."
 unfoldable pub statusWord : Core → ℕ
 unfolding wordOf
 statusWord c =
@@ -91,11 +97,12 @@ statusWord c =
     ∷ empty (c .held .tx)
     ∷ full (roomOf (c .setup)) (c .held .tx)
     ∷ c .held .flags .modf
-    ∷ not (isSelected c)
+    ∷ not (isDriving c)
     ∷ [])
 
 -- ---- IPISR, IPIER and DGIER (000, Tables 13 to 15)
 
+-- "bits 0 to 8 at any depth"
 unfoldable pub interruptWord : Interrupts → ℕ
 unfolding wordOf
 interruptWord i =

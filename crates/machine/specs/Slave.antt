@@ -1,7 +1,5 @@
 -- "A slave's lines". Assumes nothing.
 use mathlib.Core.Bool.{Bool, true, false, not, _&&_, _||_, cond}
-use mathlib.Core.List.{List}
-use Prim.Native.Nat.{ℕ}
 use Rattle.machine.specs.declared.Mode.{Mode}
 use Rattle.machine.specs.declared.Interrupts.{Interrupts}
 use Rattle.machine.specs.declared.Flags.{Flags}
@@ -15,13 +13,13 @@ use Rattle.machine.specs.declared.Outcome.{Outcome}
 use Rattle.machine.specs.declared.Outcome.the-variants.{MovedOn, Starved, Abandoned}
 use Rattle.machine.specs.Element.{wire}
 use Rattle.machine.specs.Bought.{bitsOf}
-use Rattle.machine.specs.Core.{Held, Core, Stepped, isSlave, move, keep, still}
+use Rattle.machine.specs.Core.{Core, Stepped, isSlave, move, flagged, still}
 use Rattle.machine.specs.Registers.{differ}
 use Rattle.machine.specs.Transfer.{decided, edge, finish, finishOutcome}
 
 -- ---- the levels are noted, whatever the core is
 
--- the core "stops sitting out at a high SPISEL"
+-- "A line step gives SPISEL, SCK, MOSI." The core "stops sitting out at a high SPISEL"
 abbrev pub note : Levels → Core → Core
 note given c = record {
   setup = c .setup;
@@ -52,11 +50,8 @@ fallFlags m i = record {
 abbrev pub fallen : Mode → Flags → Flags
 fallen m f = record { ipisr = fallFlags m (f .ipisr); ipier = f .ipier; dgier = f .dgier; modf = f .modf || m .master }
 
-abbrev pub withFlags : Flags → Held → Held
-withFlags f h = record { tx = h .tx; rx = h .rx; flags = f }
-
 abbrev pub fell : Core → Stepped
-fell c = still (keep (withFlags (fallen (c .mode) (c .held .flags)) (c .held)) c)
+fell c = still (flagged (fallen (c .mode) (c .held .flags)) c)
 
 -- ---- an enabled slave with SPISEL low
 
@@ -91,11 +86,12 @@ followedAt (Over got) o starved c =
 abbrev pub followed : Shift → Outcome → Core → Stepped
 followed s o c = followedAt (edge (c .mode .cpha) (bitsOf (c .setup)) (c .seen .mosi) s) o (s .starved) c
 
--- "if the store is empty it is starved: underrun is set, it sends zeros and its finish removes nothing"
+-- "if the store is empty it is starved: underrun is set, it sends zeros and its finish removes nothing, even if an element was
+-- written meanwhile."
 abbrev pub startedBy : Shift → Core → Stepped
 startedBy s c =
     followed s (cond (s .starved) Starved MovedOn)
-    (keep (withFlags (underran (s .starved) (c .held .flags)) (c .held)) c)
+    (flagged (underran (s .starved) (c .held .flags)) c)
 
 -- an edge of SCK, away from CPOL or towards it: "An enabled, selected slave starts at an edge away from CPOL"
 abbrev pub clockedAt : Transfer → Bool → Core → Stepped

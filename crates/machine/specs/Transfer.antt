@@ -6,13 +6,12 @@ use lib.ListN.{length}
 use lib.Dec.{eqb}
 use Rattle.machine.specs.declared.Setup.{Setup}
 use Rattle.machine.specs.declared.Interrupts.{Interrupts}
-use Rattle.machine.specs.declared.Flags.{Flags}
 use Rattle.machine.specs.declared.Shift.{Shift}
 use Rattle.machine.specs.declared.Edge.{Edge}
 use Rattle.machine.specs.declared.Edge.the-variants.{On, Over}
 use Rattle.machine.specs.declared.Outcome.{Outcome}
 use Rattle.machine.specs.declared.Outcome.the-variants.{Stored, Lost}
-use Rattle.machine.specs.Element.{levelOf, wire, firstLevel, shiftedIn}
+use Rattle.machine.specs.Element.{levelOf, wire, shiftedIn}
 use Rattle.machine.specs.Bought.{roomOf, hasFifo, overHalf}
 use Rattle.machine.specs.Store.{empty, full, rest, added}
 use Rattle.machine.specs.Core.{Held}
@@ -30,7 +29,7 @@ decided lsb n tx = record { left = n; odd = false; out = headOnWire lsb n tx; go
 
 -- ---- one edge
 
--- "CPHA 0 samples on odd edges ..; CPHA 1 .. samples on even": CPHA, whether the edge is an even one, and the level sampled
+-- "CPHA 0 samples on odd edges ..; CPHA 1 .. samples on even (agrees with the table in 004)": CPHA, whether the edge is an even one, and the level sampled
 abbrev pub sampled : Bool → Bool → ℕ → Bool → ℕ → ℕ
 sampled false false n b got = shiftedIn n b got
 sampled false true n b got = got

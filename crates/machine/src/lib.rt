@@ -39,7 +39,7 @@ pub enum Place {
     Nothing,
 }
 
-// The bits of SPICR that are kept: 5 and 6 empty a store and are never kept.
+// The bits of SPICR that are kept: 5 and 6 act as they are written, and never are.
 pub struct Mode {
     pub loopback: bool,
     pub enable: bool,
@@ -71,7 +71,7 @@ pub struct Interrupts {
     pub arrived: bool,
 }
 
-// Everything that is set and stays set: IPISR, IPIER, DGIER's bit and SPISR's MODF.
+// IPISR, IPIER, DGIER's bit and SPISR's MODF.
 pub struct Flags {
     pub ipisr: Interrupts,
     pub ipier: Interrupts,
@@ -97,7 +97,7 @@ pub enum Transfer {
     Gap,
 }
 
-// What an edge leaves: a transfer that goes on, or the element that came in with its last edge.
+// What an edge leaves: a transfer that goes on, or behind its last edge what came in, in wire order.
 pub enum Edge {
     On(Shift),
     Over(u32),
@@ -183,16 +183,14 @@ pub enum Command {
     Unknown { kind: u32 },
 }
 
-// What a log record says.
+// What a log record says of the command that it answers.
 pub enum Entry {
     Setup,
     Access {
-        kind: u32,
         refusal: u32,
         value: u32,
     },
     Step {
-        kind: u32,
         outcome: u32,
         element: u32,
         lines: u32,

@@ -21,11 +21,11 @@ reversed-spec =
     Inv-loop
     μ-loop
     (λ c. (search no-bits, search needs))
-    (λ c. record { fits = search twice-fits })
+    (λ c. record { fits = search (twice-fits, needs) })
     (λ c. search needs)
-    (λ c. record { fits = search bit-fits })
+    (λ c. record { fits = search (bit-fits, needs) })
     (λ c. search needs)
     (λ c. search needs)
-    (λ c. (search one-more, search needs))
+    (λ c. (search (one-more, needs), search needs))
     (λ c. let l = c .before .loop in all-bits _ _ _ (l .inv .0) _ (omega arith))
     (λ c. let l = c .before .before .loop in all-bits _ _ _ (l .inv .0) _ (omega arith)))
