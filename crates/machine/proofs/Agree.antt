@@ -35,20 +35,20 @@ unfolding wordOf nth
 word-bit [] k = rw zero-div
 word-bit (b ∷ bs) zero = rw div-one (go b)
   where
-  go : (b : Bool) → eqb ((numberOf b + 2 * wordOf bs) % 2) 1 ≡ b
-  go true = let odd : (1 + 2 * wordOf bs) % 2 ≡ 1 = omega arith in rw odd
-  go false = let even : (0 + 2 * wordOf bs) % 2 ≡ 0 = omega arith in rw even
+    go : (b : Bool) → eqb ((numberOf b + 2 * wordOf bs) % 2) 1 ≡ b
+    go true = let odd : (1 + 2 * wordOf bs) % 2 ≡ 1 = omega arith in rw odd
+    go false = let even : (0 + 2 * wordOf bs) % 2 ≡ 0 = omega arith in rw even
 word-bit (b ∷ bs) (suc k) = rw (pow-succ' 2 k, ← div-div-eq-div-mul (numberOf b + 2 * wordOf bs) 2 (2 ^ k), half b) (word-bit bs k)
   where
-  half : (b : Bool) → (numberOf b + 2 * wordOf bs) / 2 ≡ wordOf bs
-  half true = omega arith
-  half false = omega arith
+    half : (b : Bool) → (numberOf b + 2 * wordOf bs) / 2 ≡ wordOf bs
+    half true = omega arith
+    half false = omega arith
 
 pub mode-again : (m : Mode) → modeOf (controlWord m) ≡ m
 unfolding modeOf controlWord nth
 mode-again m =
     let bit = word-bit
-        (m .loopback ∷ m .enable ∷ m .master ∷ m .cpol ∷ m .cpha ∷ false ∷ false ∷ m .manual ∷ m .inhibit ∷ m .lsb ∷ []) in
+    (m .loopback ∷ m .enable ∷ m .master ∷ m .cpol ∷ m .cpha ∷ false ∷ false ∷ m .manual ∷ m .inhibit ∷ m .lsb ∷ []) in
     λ i. record {
       loopback = bit 0 i;
       enable = bit 1 i;
@@ -64,7 +64,7 @@ pub interrupts-again : (j : Interrupts) → interruptsOf (interruptWord j) ≡ j
 unfolding interruptsOf interruptWord nth
 interrupts-again j =
     let bit = word-bit
-        (j .modf ∷ j .smodf ∷ j .emptied ∷ j .underrun ∷ j .filled ∷ j .overrun ∷ j .half ∷ j .selected ∷ j .arrived ∷ []) in
+    (j .modf ∷ j .smodf ∷ j .emptied ∷ j .underrun ∷ j .filled ∷ j .overrun ∷ j .half ∷ j .selected ∷ j .arrived ∷ []) in
     λ i. record {
       modf = bit 0 i;
       smodf = bit 1 i;
@@ -89,14 +89,14 @@ pub sends-what-changes : (cpha : Bool) (n : ℕ) (b : Bool) (s t : Shift) → ed
 unfolding edge changed sending
 sends-what-changes cpha n b s t = go (s .left) (s .odd) cpha
   where
-  go : (left : ℕ) (odd cpha : Bool) → edgeAt left odd cpha n b s ≡ On t
-      → sendingAt (t .left) (t .odd) cpha (t .out) ≡ changedAt odd cpha left (s .out) (sendingAt left odd cpha (s .out))
-  go zero odd cpha e = absurd (never (s .got) t e)
-  go (suc k) false false e = rw (← same-shift _ t e)
-  go (suc k) false true e = rw (← same-shift _ t e)
-  go (suc zero) true cpha e = absurd (never _ t e)
-  go (suc (suc k)) true false e = rw (← same-shift _ t e)
-  go (suc (suc k)) true true e = rw (← same-shift _ t e)
+    go : (left : ℕ) (odd cpha : Bool) → edgeAt left odd cpha n b s ≡ On t
+        → sendingAt (t .left) (t .odd) cpha (t .out) ≡ changedAt odd cpha left (s .out) (sendingAt left odd cpha (s .out))
+    go zero odd cpha e = absurd (never (s .got) t e)
+    go (suc k) false false e = rw (← same-shift _ t e)
+    go (suc k) false true e = rw (← same-shift _ t e)
+    go (suc zero) true cpha e = absurd (never _ t e)
+    go (suc (suc k)) true false e = rw (← same-shift _ t e)
+    go (suc (suc k)) true true e = rw (← same-shift _ t e)
 
 -- ---- the size that a log record is judged by is its size
 
