@@ -1,4 +1,6 @@
 // "When the bus says SLVERR": setup, and reads and writes of a core's registers.
+#![tactic(auto)]
+
 ghost use Rattle.std.specs.Prelude.{◌≡◌, ℕ, List};
 ghost use Rattle.machine.specs.Core.{reset};
 ghost use Rattle.machine.specs.Access.{whole_word};
@@ -14,7 +16,7 @@ pub mod setup; // a core at power-on
 pub mod writes; // writes of the registers
 
 // What a read or a write gives.
-#[derive(Drop)]
+#[derive(Clone, Copy)]
 pub struct Answered {
     pub answer: Answer,
     pub core: Core,

@@ -9,7 +9,7 @@ use spi_core::Core;
 use machine::{Levels, Setup};
 
 // A core, or the part of the setup that is refused.
-#[derive(Drop)]
+#[derive(Clone, Copy)]
 pub enum Made {
     Core(Core),
     Width,

@@ -1,4 +1,6 @@
 // The bits of an element of n bits. A width over 32 counts as 32: no element is wider.
+#![tactic(auto)]
+
 ghost use Rattle.std.specs.Prelude.{◌≡◌, min};
 ghost use Rattle.machine.specs.Element.{level_of, element_of, reversed, shifted_in};
 

@@ -1,5 +1,5 @@
 -- Where two definitions look at one thing from two sides, they agree. Assumes nothing.
-use mathlib.Core.Path.{◌≡◌, refl, ap, ◌∙◌}
+use mathlib.Core.Path.{◌≡◌, refl}
 use mathlib.Core.Bool.{Bool, true, false, true≢false}
 use mathlib.Core.List.{List, [], ◌∷◌}
 use Prim.Native.Nat.{ℕ, zero, suc, ◌+◌, ◌*◌, ◌/◌, ◌%◌, ◌^◌}
@@ -10,7 +10,6 @@ use lib.Dec.{eqb}
 use Rattle.machine.specs.declared.Mode.{Mode}
 use Rattle.machine.specs.declared.Interrupts.{Interrupts}
 use Rattle.machine.specs.declared.Shift.{Shift}
-use Rattle.machine.specs.declared.Edge.{Edge}
 use Rattle.machine.specs.declared.Edge.TheVariants.{On, Over}
 use Rattle.machine.specs.declared.Command.{Command}
 use Rattle.machine.specs.declared.Command.TheVariants.{Setup, Write, Read, Tick, LineStep, Unknown}
@@ -18,8 +17,7 @@ use Rattle.machine.specs.Element.{level_of, number_of, word_of}
 use Rattle.machine.specs.Core.{Core, made, setup}
 use Rattle.machine.specs.Registers.{control_word, mode_of, interrupt_word, interrupts_of}
 use Rattle.machine.specs.Transfer.{edge_at, edge, changed_at, changed, sending_at, sending}
-use Rattle.machine.specs.Records.{is_unknown, is_out_of_turn, setup_refusal, log_size}
-use Rattle.machine.specs.Log.{entry_bytes}
+use Rattle.machine.specs.Records.{is_unknown, is_out_of_turn, log_size}
 use Rattle.machine.specs.Play.{bare, running, carry}
 
 -- ---- what is written to a register is what it reads

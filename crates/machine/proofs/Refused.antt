@@ -8,7 +8,7 @@ use Rattle.machine.specs.declared.Register.TheVariants.{Dgier, Ipisr, Ipier, Srr
 use Rattle.machine.specs.declared.Place.{Place}
 use Rattle.machine.specs.declared.Place.TheVariants as place
 use Rattle.machine.specs.declared.Answer.{Answer}
-use Rattle.machine.specs.declared.Answer.TheVariants.{Okay, LanesOrOffset, NoRegister, TxFull, RxEmpty, ResetValue, TwoSelected}
+use Rattle.machine.specs.declared.Answer.TheVariants.{LanesOrOffset, TxFull, RxEmpty, ResetValue, TwoSelected}
 use Rattle.machine.specs.Bought.{lines_of, room_of}
 use Rattle.machine.specs.Store.{empty, full}
 use Rattle.machine.specs.Core.{Core}

@@ -1,10 +1,11 @@
 // The paper's plain types: what a core is bought as, what it holds, what it is asked and what it answers. The definitions of
 // specs/ and the code of the other crates speak of these same values; only the stores are lists there and cells in the code.
+#![tactic(auto)]
 
 // ---- The core as bought
 
 // Width N, FIFO depth and slave count K.
-#[derive(Drop)]
+#[derive(Clone, Copy)]
 pub struct Setup {
     pub width: u32,
     pub depth: u32,
@@ -12,7 +13,7 @@ pub struct Setup {
 }
 
 // What setup answers: the core as bought, or what it refuses.
-#[derive(Drop)]
+#[derive(Clone, Copy)]
 pub enum Bought {
     Allowed(Setup),
     Width,
@@ -21,7 +22,7 @@ pub enum Bought {
 }
 
 // The registers, in the order of their offsets.
-#[derive(Drop)]
+#[derive(Clone, Copy)]
 pub enum Register {
     Dgier,
     Ipisr,
@@ -37,14 +38,14 @@ pub enum Register {
 }
 
 // What answers at an offset.
-#[derive(Drop)]
+#[derive(Clone, Copy)]
 pub enum Place {
     Register(Register),
     Nothing,
 }
 
 // The bits of SPICR that are kept: 5 and 6 act as they are written, and never are.
-#[derive(Drop)]
+#[derive(Clone, Copy)]
 pub struct Mode {
     pub loopback: bool,
     pub enable: bool,
@@ -57,7 +58,7 @@ pub struct Mode {
 }
 
 // Bits 0 to 8 of IPISR and of IPIER, in that order.
-#[derive(Drop)]
+#[derive(Clone, Copy)]
 pub struct Interrupts {
     // MODF: SPISEL fell with the master bit set.
     pub modf: bool,
@@ -78,7 +79,7 @@ pub struct Interrupts {
 }
 
 // IPISR, IPIER, DGIER's bit and SPISR's MODF.
-#[derive(Drop)]
+#[derive(Clone, Copy)]
 pub struct Flags {
     pub ipisr: Interrupts,
     pub ipier: Interrupts,
@@ -90,7 +91,7 @@ pub struct Flags {
 
 // An element under way: the bits left, whether the odd edge of the first of them is done, what is sent in wire order, what
 // came in so far, and whether the store was empty when it was decided.
-#[derive(Drop)]
+#[derive(Clone, Copy)]
 pub struct Shift {
     pub left: u32,
     pub odd: bool,
@@ -99,7 +100,7 @@ pub struct Shift {
     pub starved: bool,
 }
 
-#[derive(Drop)]
+#[derive(Clone, Copy)]
 pub enum Transfer {
     Idle,
     Moving(Shift),
@@ -107,14 +108,14 @@ pub enum Transfer {
 }
 
 // What an edge leaves: a transfer that goes on, or behind its last edge what came in, in wire order.
-#[derive(Drop)]
+#[derive(Clone, Copy)]
 pub enum Edge {
     On(Shift),
     Over(u32),
 }
 
 // The levels of a line step.
-#[derive(Drop)]
+#[derive(Clone, Copy)]
 pub struct Levels {
     pub spisel: bool,
     pub sck: bool,
@@ -122,7 +123,7 @@ pub struct Levels {
 }
 
 // A core's own outputs.
-#[derive(Drop)]
+#[derive(Clone, Copy)]
 pub struct Outputs {
     pub sck: bool,
     pub mosi: bool,
@@ -133,7 +134,7 @@ pub struct Outputs {
 }
 
 // What a tick or a line step came to.
-#[derive(Drop)]
+#[derive(Clone, Copy)]
 pub enum Outcome {
     Nothing,
     MovedOn,
@@ -145,14 +146,14 @@ pub enum Outcome {
 
 // ---- The bus
 
-#[derive(Drop)]
+#[derive(Clone, Copy)]
 pub enum Access {
     Write { offset: u32, lanes: u32, value: u32 },
     Read { offset: u32, lanes: u32 },
 }
 
 // What the bus says: OKAY with a value, or SLVERR for one of the refusals.
-#[derive(Drop)]
+#[derive(Clone, Copy)]
 pub enum Answer {
     Okay(u32),
     LanesOrOffset,
@@ -165,14 +166,14 @@ pub enum Answer {
 
 // ---- The joined bench
 
-#[derive(Drop)]
+#[derive(Clone, Copy)]
 pub enum Side {
     Master,
     Slave,
 }
 
 // How a run ended: the master is idle with an empty Tx store, or the limit of ticks is spent.
-#[derive(Drop)]
+#[derive(Clone, Copy)]
 pub enum Ended {
     Drained,
     LimitSpent,
@@ -181,7 +182,7 @@ pub enum Ended {
 // ---- Scripts and logs
 
 // What stands at a place of a script.
-#[derive(Drop)]
+#[derive(Clone, Copy)]
 pub enum Found {
     // A whole record: its kind, the length of its payload, and the place of the next.
     Whole { kind: u32, len: usize, next: usize },
@@ -192,7 +193,7 @@ pub enum Found {
 }
 
 // What a record asks for.
-#[derive(Drop)]
+#[derive(Clone, Copy)]
 pub enum Command {
     Setup { width: u32, depth: u32, slaves: u32 },
     Write { offset: u32, lanes: u32, value: u32 },
@@ -203,7 +204,7 @@ pub enum Command {
 }
 
 // What a log record says of the command that it answers.
-#[derive(Drop)]
+#[derive(Clone, Copy)]
 pub enum Entry {
     Setup,
     Access {

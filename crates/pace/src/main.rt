@@ -1,11 +1,13 @@
 // A benchmark: 1,000,000 elements of 8 bits through the ticks of one core in loopback, refilled as they drain. It writes the sum of
 // the elements read back.
+#![tactic(auto)]
+
 use bus::setup::Made;
 use spi_core::Core;
 use libc::STDOUT_FILENO;
 use machine::Outcome;
 
-#[derive(Drop)]
+#[derive(Clone, Copy)]
 struct Pace {
     core: Core,
     next: u32,

@@ -1,4 +1,6 @@
 // The registers: which one answers at an offset, and the words that the bus reads and writes of their bits.
+#![tactic(auto)]
+
 ghost use Rattle.std.specs.Prelude.{◌≡◌, ◌-◌, ◌^◌, min, [], ◌∷◌};
 ghost use Rattle.machine.specs.Element.{word_of};
 ghost use Rattle.machine.specs.Registers.{global_word, place_of, control_word, mode_of, interrupt_word, interrupts_of, toggled, interrupt_line};

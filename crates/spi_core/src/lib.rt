@@ -1,4 +1,6 @@
 // One core of document 01: a small struct by value, and the cells of its two stores lent by the caller.
+#![tactic(auto)]
+
 ghost use Rattle.std.specs.Prelude.{◌≡◌, ℕ, List, if◌then◌else◌};
 ghost use Rattle.machine.specs.Core.{is_master, is_slave};
 ghost use Rattle.machine.specs.Registers.{differ, is_driving};
@@ -11,7 +13,7 @@ pub mod lines; // the lines that a core shows
 pub mod master; // a master's ticks
 pub mod slave; // a slave's line steps
 
-#[derive(Drop)]
+#[derive(Clone, Copy)]
 pub struct Core {
     pub setup: Setup,
     pub mode: Mode,
@@ -24,7 +26,7 @@ pub struct Core {
 }
 
 // What a tick or a line step gives.
-#[derive(Drop)]
+#[derive(Clone, Copy)]
 pub struct Stepped {
     pub outcome: Outcome,
     pub core: Core,

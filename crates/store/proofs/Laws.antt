@@ -11,7 +11,6 @@ use lib.Dec.{leb, eqb, eqb-suc-zero}
 use lib.Seq.{get_or-set_same, get_or-set_other}
 use Rattle.machine.specs.Store.{empty, full, first, rest}
 use Rattle.store.specs.declared.Ring.{Ring}
-use Rattle.store.specs.declared.Placed.{Placed}
 use Rattle.store.specs.Held.{from, held, empty_ring, Puts, Takes}
 
 -- ---- of `from`, by recursion on the count

@@ -1,22 +1,24 @@
 // A first-in first-out store over cells that the caller lends: the elements stand one behind the other from cell `head` on, round
 // the 256 cells. Every value of a Ring is a store, and what it holds is a list.
+#![tactic(auto)]
+
 ghost use Rattle.std.specs.Prelude.{◌≡◌, List, ℕ, min, length};
 ghost use Rattle.machine.specs.Store.{empty, full, first};
 ghost use Rattle.store.specs.Held.{held, empty_ring, Puts, Takes};
 
-#[derive(Drop)]
+#[derive(Clone, Copy)]
 pub struct Ring {
     pub head: u32,
     pub count: u32,
 }
 
-#[derive(Drop)]
+#[derive(Clone, Copy)]
 pub struct Placed {
     pub ring: Ring,
     pub stored: bool,
 }
 
-#[derive(Drop)]
+#[derive(Clone, Copy)]
 pub struct Taken {
     pub ring: Ring,
     pub element: u32,

@@ -1,4 +1,6 @@
 // What master and slave share: the element to be sent, its edges, and its finish. A width over 32 counts as 32.
+#![tactic(auto)]
+
 ghost use Rattle.std.specs.Prelude.{◌≡◌, ◌&&◌, not, List, ℕ, min, length, eqb};
 ghost use Rattle.machine.specs.Element.{wire, first_level};
 ghost use Rattle.machine.specs.Bought.{room_of, has_fifo, over_half};
@@ -11,14 +13,14 @@ use machine::{Edge, Flags, Interrupts, Outcome, Setup, Shift};
 use store::Ring;
 
 // The two stores and the flags.
-#[derive(Drop)]
+#[derive(Clone, Copy)]
 pub struct Held {
     pub tx: Ring,
     pub rx: Ring,
     pub flags: Flags,
 }
 
-#[derive(Drop)]
+#[derive(Clone, Copy)]
 pub struct Finished {
     pub outcome: Outcome,
     pub held: Held,

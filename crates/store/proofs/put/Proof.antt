@@ -11,9 +11,9 @@ put_spec =
     (tie.spec
     (λ c κs. search rules)
     (λ c. search not_stored)
-    (λ c. let i = c.before.before in omega (arith, few i.before.args.r _ _ i.is-full.ensures (search rules)))
+    (λ c. let i = c.before.before in omega (arith, few i.before.args.r _ _ i.is_full.ensures (search rules)))
     (λ c. search rules)
     (λ c. search rules)
     (λ c. search rules)
-    (λ c. let i = c.before.before.before in omega (arith, few i.before.args.r _ _ i.is-full.ensures (search rules)))
+    (λ c. let i = c.before.before.before in omega (arith, few i.before.args.r _ _ i.is_full.ensures (search rules)))
     (λ c. search stored))

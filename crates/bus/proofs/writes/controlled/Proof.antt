@@ -25,6 +25,6 @@ controlled_spec =
     let l = k.before in
     let f = l.before.before in
     λ txc rxc.
-    controls _ _ txc rxc _ f.before.Mode-of.ensures _ f.has-fifo.ensures _ _ _ _ _ _ _ l.before.level.ensures
-    l.level2.ensures k.changes.ensures e.before.emptied-if.ensures e.emptied-if2.ensures i.idle-if.ensures
+    controls _ _ txc rxc _ f.before.Mode_of.ensures _ f.has_fifo.ensures _ _ _ _ _ _ _ l.before.level.ensures
+    l.level2.ensures k.changes.ensures e.before.emptied_if.ensures e.emptied_if2.ensures i.idle_if.ensures
     p.sits.ensures))

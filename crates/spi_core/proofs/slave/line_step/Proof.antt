@@ -15,7 +15,7 @@ line_step_spec =
     (λ c. has_fallen c.before.before.before.before.before.args.c c.before.before.before.noted.result _ _ _ c.before.before.before.noted.ensures _ c.fell.ensures c.before.before.if1.true c.before.if2.false)
     (λ c κs. search rules)
     (λ c κs. search rules)
-    (λ c. let b = c.before.before.before in has_risen _ _ _ _ _ b.before.before.noted.ensures _ b.is-slave.ensures b.before.if1.false c.before.before.if3.true _ c.rose.ensures c.before.if4.true)
+    (λ c. let b = c.before.before.before in has_risen _ _ _ _ _ b.before.before.noted.ensures _ b.is_slave.ensures b.before.if1.false c.before.before.if3.true _ c.rose.ensures c.before.if4.true)
     (λ c κs. search rules)
     (λ c κs. search rules)
     (λ c. search stays_low)
