@@ -7,8 +7,8 @@ ghost use Rattle.machine.specs.Access.{whole_word};
 ghost use Rattle.spi_core.specs.View.{view};
 ghost use Rattle.bus.specs.Answers.{refused};
 
-use spi_core::Core;
 use machine::{Answer, Flags, Interrupts, Levels, Mode, Setup, Transfer};
+use spi_core::Core;
 use transfer::Held;
 
 pub mod reads; // reads of the registers

@@ -7,8 +7,8 @@ ghost use Rattle.spi_core.specs.View.{view};
 ghost use Rattle.bus.specs.Answers.{answered, word_at, plain, Reads};
 
 use crate::{Answered, is_whole_word, refused};
-use spi_core::Core;
 use machine::{Answer, Flags, Place, Register};
+use spi_core::Core;
 use store::Ring;
 use transfer::Held;
 

@@ -5,8 +5,8 @@ ghost use Rattle.machine.specs.Core.{setup};
 ghost use Rattle.bus.specs.Answers.{made_as};
 
 use crate::reset;
-use spi_core::Core;
 use machine::{Levels, Setup};
+use spi_core::Core;
 
 // A core, or the part of the setup that is refused.
 #[derive(Clone, Copy)]

@@ -8,8 +8,8 @@ ghost use Rattle.spi_core.specs.View.{view};
 ghost use Rattle.bus.specs.Answers.{answered, change_at, Writes};
 
 use crate::{Answered, is_whole_word, refused, reset};
-use spi_core::Core;
 use machine::{Answer, Flags, Place, Register, Transfer};
+use spi_core::Core;
 use store::Ring;
 use transfer::Held;
 

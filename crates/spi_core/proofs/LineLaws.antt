@@ -1,8 +1,6 @@
 -- What the lines ensure, in plain variables. Assumes nothing.
 use Rattle.std.specs.Prelude.{◌≡◌, ℕ, ◌-◌, ◌^◌, min, Bool, true, false, cond, not, ◌&&◌, ◌||◌, List}
-use mathlib.Core.Path.{refl, sym, ap, ◌∙◌}
 use Rattle.machine.specs.declared.Shift.{Shift}
-use Rattle.machine.specs.declared.Outputs.{Outputs}
 use Rattle.machine.specs.declared.Transfer.{Transfer}
 use Rattle.machine.specs.declared.Transfer.TheVariants.{Idle, Moving, Gap}
 use Rattle.machine.specs.Element.{element_of, first_level}

@@ -1,14 +1,13 @@
 -- What a master's tick ensures, in plain variables: a law for each return. Assumes nothing.
-use Rattle.std.specs.Prelude.{◌≡◌, ℕ, min, Bool, true, false, cond, not, List, [], ◌∷◌}
-use mathlib.Core.Path.{refl, sym, ap, ◌∙◌}
+use Rattle.std.specs.Prelude.{◌≡◌, ℕ, min, Bool, true, false, cond, List, [], ◌∷◌}
+use mathlib.Core.Path.{refl, sym, ◌∙◌}
 use mathlib.Core.Bool.{true≢false}
 use Rattle.machine.specs.declared.Shift.{Shift}
 use Rattle.machine.specs.declared.Edge.{Edge}
 use Rattle.machine.specs.declared.Edge.TheVariants.{On, Over}
 use Rattle.machine.specs.declared.Transfer.{Transfer}
 use Rattle.machine.specs.declared.Transfer.TheVariants.{Idle, Moving, Gap}
-use Rattle.machine.specs.declared.Outcome.{Outcome}
-use Rattle.machine.specs.declared.Outcome.TheVariants.{Nothing, MovedOn}
+use Rattle.machine.specs.declared.Outcome.TheVariants.{MovedOn}
 use Rattle.machine.specs.Element.{wire, first_level}
 use Rattle.machine.specs.Bought.{bits_of}
 use Rattle.machine.specs.Store.{empty}

@@ -15,7 +15,7 @@ use Rattle.machine.specs.Element.{wire}
 use Rattle.machine.specs.Core as machine
 use Rattle.machine.specs.Registers.{differ}
 use Rattle.machine.specs.Transfer.{decided, edge}
-use Rattle.machine.specs.Slave.{note, fallen, fell, underran, followed, started_by, clocked_at, clocked, rose_at, line_at, line_step}
+use Rattle.machine.specs.Slave.{note, fallen, fell, underran, followed, clocked_at, clocked, rose_at, line_at, line_step}
 use Rattle.store.specs.Held.{held}
 use Rattle.transfer.specs.declared.Held.{Held}
 use Rattle.transfer.specs.declared.Finished.{Finished}

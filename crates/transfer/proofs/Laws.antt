@@ -1,11 +1,10 @@
 -- What the functions of the crate ensure, in plain variables: a law for each return. Assumes nothing.
-use Prim.Native.Nat.{ℕ, zero, suc, ◌-◌, ◌≤◌, ◌<◌, min}
+use Prim.Native.Nat.{ℕ, zero, suc, ◌-◌, ◌≤◌, ◌<◌}
 use mathlib.Core.Path.{◌≡◌, refl, sym, ap, ◌∙◌}
 use mathlib.Core.Bool.{Bool, true, false, not, ◌&&◌, beq, true≢false, false≢true}
 use mathlib.Core.List.{List, [], ◌∷◌}
 use native.Mathlib.Omega.{arith}
 use Rattle.machine.specs.declared.Shift.{Shift}
-use Rattle.machine.specs.declared.Edge.{Edge}
 use Rattle.machine.specs.declared.Edge.TheVariants.{On, Over}
 use Rattle.machine.specs.Element.{level_of, reversed, wire, first_level, shifted_in}
 use Rattle.machine.specs.Store.{empty, first}
