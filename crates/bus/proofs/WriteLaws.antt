@@ -1,5 +1,5 @@
 -- What writes ensure, in plain variables. Assumes nothing.
-use Rattle.std.proofs.Common.{◌≡◌, ℕ, ◌-◌, ◌%◌, ◌^◌, ◌<◌, ◌≤◌, min, Bool, true, false, cond, not, ◌&&◌, ◌||◌, eqb, leb, List, [], sym, refl, ap, ◌∙◌, true≢false, arith, eq-eqb, ne_eqb, le-leb}
+use Rattle.std.proofs.Common.{◌≡◌, ℕ, ◌-◌, ◌^◌, ◌<◌, ◌≤◌, min, Bool, true, false, cond, not, ◌&&◌, ◌||◌, eqb, leb, List, [], sym, refl, ap, ◌∙◌, true≢false, eq-eqb, ne_eqb, le-leb}
 use mathlib.Core.Bool.{false≢true}
 use borrow.Author.Tests.{lt-leb}
 use Rattle.machine.specs.declared.Setup.{Setup}
@@ -11,7 +11,6 @@ use Rattle.machine.specs.declared.Transfer.{Transfer}
 use Rattle.machine.specs.declared.Transfer.TheVariants.{Idle}
 use Rattle.machine.specs.declared.Register.{Register}
 use Rattle.machine.specs.declared.Register.TheVariants.{Dgier, Ipisr, Ipier, Srr, Spicr, Spisr, Spidtr, Spidrr, Spissr, TxOccupancy, RxOccupancy}
-use Rattle.machine.specs.declared.Answer.{Answer}
 use Rattle.machine.specs.declared.Answer.TheVariants.{Okay, LanesOrOffset, NoRegister, TxFull, ResetValue, TwoSelected}
 use Rattle.machine.specs.declared.Place.{Place}
 use Rattle.machine.specs.declared.Place.TheVariants as place
@@ -26,7 +25,6 @@ use Rattle.machine.specs.Bench.{is_accepted}
 use Rattle.store.specs.declared.Ring.{Ring}
 use Rattle.store.specs.declared.Placed.{Placed}
 use Rattle.store.specs.Held.{held, from, empty_ring, Puts}
-use Rattle.transfer.specs.declared.Held.{Held}
 use Rattle.transfer.specs.Kept.{kept}
 use Rattle.spi_core.specs.declared.Core.{Core}
 use Rattle.bus.specs.declared.Answered.{Answered}

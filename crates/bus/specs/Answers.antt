@@ -1,5 +1,5 @@
 -- What setup, reads and writes of the code promise. Assumes nothing.
-use Rattle.std.specs.Prelude.{◌≡◌, ℕ, Bool, false, List}
+use Rattle.std.specs.Prelude.{◌≡◌, ℕ, false, List}
 use Rattle.machine.specs.declared.Register.{Register}
 use Rattle.machine.specs.declared.Register.TheVariants.{Dgier, Ipisr, Ipier, Srr, Spicr, Spisr, Spidtr, Spidrr, Spissr, TxOccupancy, RxOccupancy}
 use Rattle.machine.specs.declared.Answer.{Answer}
