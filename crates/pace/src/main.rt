@@ -3,9 +3,9 @@
 #![tactic(auto)]
 
 use bus::setup::Made;
-use spi_core::Core;
-use libc::STDOUT_FILENO;
 use machine::Outcome;
+use spi_core::Core;
+use std::io;
 
 #[derive(Clone, Copy)]
 struct Pace {
@@ -45,12 +45,12 @@ fn ticked(p: Pace, txc: &mut [u32; 256], rxc: &mut [u32; 256]) -> Pace {
     }
 }
 
-fn main() {
+fn main(rt: HostRuntime) -> io::Result<()> {
     let mut txc = [0u32; 256];
     let mut rxc = [0u32; 256];
     let made = bus::setup::setup(8, 16, 1);
     let Made::Core(bought) = made else {
-        return;
+        return Ok(());
     };
     let on = bus::writes::write(bought, &mut txc, 0x60, 15, 0x87);
     let first = bus::writes::write(on.core, &mut txc, 0x68, 15, 1);
@@ -66,6 +66,6 @@ fn main() {
         p = ticked(p, &mut txc, &mut rxc);
         left -= 1;
     }
-    io::print_decimal(STDOUT_FILENO, p.sum);
-    io::write_all(STDOUT_FILENO, b"\n");
+    let sum = p.sum;
+    println!(rt; "{sum}")
 }
