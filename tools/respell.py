@@ -1,5 +1,5 @@
 #!/usr/bin/env python3
-"""Turns this repository's own names to the spelling of today's Rattle, behind /opt/rattle/port/port.py, in the repository's folder.
+"""Turns this repository's own names to the spelling of today's Rattle, behind the kit's port/port.py, in the repository's folder.
 
 Crate core, whose name the kit's library has, becomes spi_core. Definitions and lemmas that were spelled with capitals or dashes inside
 are in snake case; types, modules, the kit's names and the functions of src/ stay. It says which names fall together.

@@ -153,6 +153,7 @@ fn write_reset(c: Core, v: u32) -> Answered
 }
 
 // 15: "SPISSR written with two or more zeros in its K bits".
+#[tactic(auto, using(crate::proofs::WriteLaws::two_selected, crate::proofs::WriteLaws::one_selected))]
 fn write_select(c: Core, v: u32) -> Answered
     ensures { (txc : List ℕ) → Writes result c txc txc (write_select v) }
 {
