@@ -1,4 +1,5 @@
--- The table of refusals: each number is given then and only then, in the table's order, and the core is unchanged. Assumes nothing.
+-- The table of refusals: each number is given then and only then, in the table's order, and "All refusals below give value 0 and an
+-- unchanged core." Assumes nothing.
 use mathlib.Core.Path.{◌≡◌, refl}
 use mathlib.Core.Bool.{Bool, true, false, cond, true≢false}
 use Prim.Native.Nat.{ℕ}
@@ -8,12 +9,12 @@ use Rattle.machine.specs.declared.Register.TheVariants.{Dgier, Ipisr, Ipier, Srr
 use Rattle.machine.specs.declared.Place.{Place}
 use Rattle.machine.specs.declared.Place.TheVariants as place
 use Rattle.machine.specs.declared.Answer.{Answer}
-use Rattle.machine.specs.declared.Answer.TheVariants.{LanesOrOffset, TxFull, RxEmpty, ResetValue, TwoSelected}
+use Rattle.machine.specs.declared.Answer.TheVariants.{Okay, LanesOrOffset, NoRegister, TxFull, RxEmpty, ResetValue, TwoSelected}
 use Rattle.machine.specs.Bought.{lines_of, room_of}
 use Rattle.machine.specs.Store.{empty, full}
 use Rattle.machine.specs.Core.{Core}
 use Rattle.machine.specs.Registers.{place_of}
-use Rattle.machine.specs.Access.{Answered, refusal_number, refuse, accept, zeros_in, whole_word, write_to, write_at, write, read_from, read_at, read}
+use Rattle.machine.specs.Access.{Answered, refusal_number, answer_value, refuse, accept, zeros_in, whole_word, write_to, write_at, write, read_from, read_at, read}
 use Rattle.machine.specs.Bench.{is_accepted}
 
 -- ---- the table, as it stands: 10, 11, then 12 to 15 at their registers; 0 where none is given
@@ -51,21 +52,34 @@ table_at true (place.Register r) own = own r
 
 -- ---- a refusal, or none, and what it leaves
 
--- an answer's number, and the very same core unless it is 0
+-- an answer's number; value 0 and the very same core unless it is 0
 pub record Gives (r : Answered) (c : Core) (n : ℕ) : Type 0 where
   pub number : refusal_number r.answer ≡ n
+  pub value : is_accepted r.answer ≡ false → answer_value r.answer ≡ 0
   pub same : is_accepted r.answer ≡ false → r.core ≡ c
 
 gives_okay : (v : ℕ) (n c : Core) → Gives (accept v n) c 0
-gives_okay v n c = record { number = refl; same = λ e. absurd (true≢false e) }
+gives_okay v n c = record { number = refl; value = λ e. absurd (true≢false e); same = λ e. absurd (true≢false e) }
+
+no_value : (a : Answer) → is_accepted a ≡ false → answer_value a ≡ 0
+no_value (Okay v) e = absurd (true≢false e)
+no_value LanesOrOffset e = refl
+no_value NoRegister e = refl
+no_value TxFull e = refl
+no_value RxEmpty e = refl
+no_value ResetValue e = refl
+no_value TwoSelected e = refl
+
+gives_refused : (a : Answer) (c : Core) → Gives (refuse a c) c (refusal_number a)
+gives_refused a c = record { number = refl; value = no_value a; same = λ _. refl }
 
 gives_if : (b : Bool) (a : Answer) (v : ℕ) (n c : Core) → Gives (cond b (refuse a c) (accept v n)) c (cond b (refusal_number a) 0)
-gives_if true a v n c = record { number = refl; same = λ _. refl }
+gives_if true a v n c = gives_refused a c
 gives_if false a v n c = gives_okay v n c
 
 gives_unless : (b : Bool) (a : Answer) (v : ℕ) (n c : Core) → Gives (cond b (accept v n) (refuse a c)) c (cond b 0 (refusal_number a))
 gives_unless true a v n c = gives_okay v n c
-gives_unless false a v n c = record { number = refl; same = λ _. refl }
+gives_unless false a v n c = gives_refused a c
 
 -- ---- writes
 
@@ -89,8 +103,8 @@ unfolding write
 write_gives offset lanes v c = go (whole_word offset lanes) (place_of c.setup offset)
   where
     go : (b : Bool) (p : Place) → Gives (cond b (write_at p v c) (refuse LanesOrOffset c)) c (table_at b p (λ r. own_of_write r v c))
-    go false p = record { number = refl; same = λ _. refl }
-    go true place.Nothing = record { number = refl; same = λ _. refl }
+    go false p = gives_refused LanesOrOffset c
+    go true place.Nothing = gives_refused NoRegister c
     go true (place.Register r) = own_write r v c
 
 -- ---- reads
@@ -115,6 +129,6 @@ unfolding read
 read_gives offset lanes c = go (whole_word offset lanes) (place_of c.setup offset)
   where
     go : (b : Bool) (p : Place) → Gives (cond b (read_at p c) (refuse LanesOrOffset c)) c (table_at b p (λ r. own_of_read r c))
-    go false p = record { number = refl; same = λ _. refl }
-    go true place.Nothing = record { number = refl; same = λ _. refl }
+    go false p = gives_refused LanesOrOffset c
+    go true place.Nothing = gives_refused NoRegister c
     go true (place.Register r) = own_read r c
