@@ -24,6 +24,7 @@ fn occupancy(r: Ring) -> u32
 }
 
 // What a register reads whose read changes nothing; 0 for the two others.
+#[tactic(auto, using(crate::proofs::ReadLaws::word), unfolding(spi_core::specs::View::view, transfer::specs::Kept::kept))]
 fn word_at(r: Register, c: Core) -> u32
     ensures { (txc rxc : List ℕ) → result ≡ word_at r (view c txc rxc) }
 {
