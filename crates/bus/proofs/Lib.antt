@@ -1,3 +1,1 @@
-mod ReadLaws
-mod SetupLaws
-mod WriteLaws
+pub mod Accesses

@@ -7,6 +7,7 @@ use native.Mathlib.Nat.{div-one, div-div-eq-div-mul, pow-succ', zero-div}
 use native.Mathlib.Omega.{arith}
 use lib.ListN.{length}
 use lib.Dec.{eqb}
+use Rattle.std.specs.Prelude.{Ok}
 use Rattle.machine.specs.declared.Mode.{Mode}
 use Rattle.machine.specs.declared.Interrupts.{Interrupts}
 use Rattle.machine.specs.declared.Shift.{Shift}
@@ -14,7 +15,7 @@ use Rattle.machine.specs.declared.Edge.TheVariants.{On, Over}
 use Rattle.machine.specs.declared.Command.{Command}
 use Rattle.machine.specs.declared.Command.TheVariants.{Setup, Write, Read, Tick, LineStep, Unknown}
 use Rattle.machine.specs.Element.{level_of, number_of, word_of}
-use Rattle.machine.specs.Core.{Core, made, setup}
+use Rattle.machine.specs.Core.{Core, setup}
 use Rattle.machine.specs.Registers.{control_word, mode_of, interrupt_word, interrupts_of}
 use Rattle.machine.specs.Transfer.{edge_at, edge, changed_at, changed, sending_at, sending}
 use Rattle.machine.specs.Records.{is_unknown, is_out_of_turn, log_size}
@@ -107,6 +108,6 @@ logged c (Tick m) known turn = refl
 logged c (LineStep l) known turn = refl
 logged c (Unknown k) known turn = absurd (true≢false known)
 
-pub logged_setup : (w d k : ℕ) (c : Core) → setup w d k ≡ made c → length (carry bare (Setup w d k)).log ≡ log_size (Setup w d k)
+pub logged_setup : (w d k : ℕ) (c : Core) → setup w d k ≡ Ok c → length (carry bare (Setup w d k)).log ≡ log_size (Setup w d k)
 unfolding carry
 logged_setup w d k c e = rw e

@@ -1,4 +1,4 @@
-mod Agree
+pub mod Agree
 pub mod Element
 pub mod Refused
 mod Table

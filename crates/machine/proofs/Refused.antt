@@ -4,17 +4,18 @@ use mathlib.Core.Path.{◌≡◌, refl}
 use mathlib.Core.Bool.{Bool, true, false, cond, true≢false}
 use Prim.Native.Nat.{ℕ}
 use lib.Dec.{leb, eqb}
+use Rattle.std.specs.Prelude.{Ok, Err}
 use Rattle.machine.specs.declared.Register.{Register}
 use Rattle.machine.specs.declared.Register.TheVariants.{Dgier, Ipisr, Ipier, Srr, Spicr, Spisr, Spidtr, Spidrr, Spissr, TxOccupancy, RxOccupancy}
 use Rattle.machine.specs.declared.Place.{Place}
 use Rattle.machine.specs.declared.Place.TheVariants as place
-use Rattle.machine.specs.declared.Answer.{Answer}
-use Rattle.machine.specs.declared.Answer.TheVariants.{Okay, LanesOrOffset, NoRegister, TxFull, RxEmpty, ResetValue, TwoSelected}
+use Rattle.machine.specs.declared.Refusal.{Refusal}
+use Rattle.machine.specs.declared.Refusal.TheVariants.{LanesOrOffset, NoRegister, TxFull, RxEmpty, ResetValue, TwoSelected}
 use Rattle.machine.specs.Bought.{lines_of, room_of}
 use Rattle.machine.specs.Store.{empty, full}
 use Rattle.machine.specs.Core.{Core}
 use Rattle.machine.specs.Registers.{place_of}
-use Rattle.machine.specs.Access.{Answered, refusal_number, answer_value, refuse, accept, zeros_in, whole_word, write_to, write_at, write, read_from, read_at, read}
+use Rattle.machine.specs.Access.{Answer, Answered, number_of_refusal, refusal_number, answer_value, refuse, accept, zeros_in, whole_word, write_to, write_at, write, read_from, read_at, read}
 use Rattle.machine.specs.Bench.{is_accepted}
 
 -- ---- the table, as it stands: 10, 11, then 12 to 15 at their registers; 0 where none is given
@@ -62,24 +63,19 @@ gives_okay : (v : ℕ) (n c : Core) → Gives (accept v n) c 0
 gives_okay v n c = record { number = refl; value = λ e. absurd (true≢false e); same = λ e. absurd (true≢false e) }
 
 no_value : (a : Answer) → is_accepted a ≡ false → answer_value a ≡ 0
-no_value (Okay v) e = absurd (true≢false e)
-no_value LanesOrOffset e = refl
-no_value NoRegister e = refl
-no_value TxFull e = refl
-no_value RxEmpty e = refl
-no_value ResetValue e = refl
-no_value TwoSelected e = refl
+no_value (Ok v) e = absurd (true≢false e)
+no_value (Err r) e = refl
 
-gives_refused : (a : Answer) (c : Core) → Gives (refuse a c) c (refusal_number a)
-gives_refused a c = record { number = refl; value = no_value a; same = λ _. refl }
+gives_refused : (e : Refusal) (c : Core) → Gives (refuse e c) c (number_of_refusal e)
+gives_refused e c = record { number = refl; value = no_value (Err e); same = λ _. refl }
 
-gives_if : (b : Bool) (a : Answer) (v : ℕ) (n c : Core) → Gives (cond b (refuse a c) (accept v n)) c (cond b (refusal_number a) 0)
-gives_if true a v n c = gives_refused a c
-gives_if false a v n c = gives_okay v n c
+gives_if : (b : Bool) (e : Refusal) (v : ℕ) (n c : Core) → Gives (cond b (refuse e c) (accept v n)) c (cond b (number_of_refusal e) 0)
+gives_if true e v n c = gives_refused e c
+gives_if false e v n c = gives_okay v n c
 
-gives_unless : (b : Bool) (a : Answer) (v : ℕ) (n c : Core) → Gives (cond b (accept v n) (refuse a c)) c (cond b 0 (refusal_number a))
-gives_unless true a v n c = gives_okay v n c
-gives_unless false a v n c = gives_refused a c
+gives_unless : (b : Bool) (e : Refusal) (v : ℕ) (n c : Core) → Gives (cond b (accept v n) (refuse e c)) c (cond b 0 (number_of_refusal e))
+gives_unless true e v n c = gives_okay v n c
+gives_unless false e v n c = gives_refused e c
 
 -- ---- writes
 

@@ -5,11 +5,16 @@ use mathlib.Core.Bool.{true}
 use mathlib.Core.List.{List, [], ◌∷◌, ◌++◌}
 use Prim.Native.Nat.{ℕ, zero, suc}
 use lib.ListN.{replicate}
+use lib.Chars.{codes}
+use Rattle.std.specs.Fmt.{digits}
+use Rattle.machine.specs.declared.SetupRefusal.TheVariants.{Slaves}
+use Rattle.machine.specs.declared.Refusal.TheVariants.{TxFull}
 use Rattle.machine.specs.declared.Side.{Side}
 use Rattle.machine.specs.declared.Side.TheVariants.{Master, Slave}
 use Rattle.machine.specs.declared.Access.TheVariants.{Write, Read}
 use Rattle.machine.specs.Core.{Core, power_on}
 use Rattle.machine.specs.Access.{refusal_number, answer_value, read, write}
+use Rattle.machine.specs.Words.{setup_refusal_text, refusal_text}
 use Rattle.machine.specs.Transfer.{finish, finish_outcome}
 use Rattle.machine.specs.Master.{tick}
 use Rattle.machine.specs.Element.{reversed}
@@ -164,6 +169,15 @@ mixed_bit_order :
     ≡ 0xAC
 unfolding bench_reads bench_ticked bench_after join core
 mixed_bit_order = refl
+
+-- refusals as they are printed
+setup_printed : setup_refusal_text Slaves ≡ codes "3: slave count"
+unfolding digits
+setup_printed = refl
+
+refusal_printed : refusal_text TxFull ≡ codes "12: SPIDTR written while its store is full"
+unfolding digits
+refusal_printed = refl
 
 -- "Whole example, in: .. Out: .."
 whole_example :

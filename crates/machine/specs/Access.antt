@@ -1,5 +1,5 @@
 -- "When the bus says SLVERR": reads and writes of the registers, and their refusals. Assumes nothing.
-use Rattle.std.specs.Prelude.{Bool, false, ◌&&◌, cond, ℕ, zero, suc, ◌+◌, ◌-◌, ◌%◌, ◌^◌, leb, eqb}
+use Rattle.std.specs.Prelude.{Bool, false, ◌&&◌, cond, ℕ, zero, suc, ◌+◌, ◌-◌, ◌%◌, ◌^◌, leb, eqb, Result, Ok, Err}
 use Rattle.machine.specs.declared.Register.{Register}
 use Rattle.machine.specs.declared.Register.TheVariants.{Dgier, Ipisr, Ipier, Srr, Spicr, Spisr, Spidtr, Spidrr, Spissr, TxOccupancy, RxOccupancy}
 use Rattle.machine.specs.declared.Place.{Place}
@@ -7,8 +7,8 @@ use Rattle.machine.specs.declared.Place.TheVariants as place
 use Rattle.machine.specs.declared.Flags.{Flags}
 use Rattle.machine.specs.declared.Access.{Access}
 use Rattle.machine.specs.declared.Access.TheVariants.{Write, Read}
-use Rattle.machine.specs.declared.Answer.{Answer}
-use Rattle.machine.specs.declared.Answer.TheVariants.{Okay, LanesOrOffset, NoRegister, TxFull, RxEmpty, ResetValue, TwoSelected}
+use Rattle.machine.specs.declared.Refusal.{Refusal}
+use Rattle.machine.specs.declared.Refusal.TheVariants.{LanesOrOffset, NoRegister, TxFull, RxEmpty, ResetValue, TwoSelected}
 use Rattle.machine.specs.Element.{bit_of, element_of}
 use Rattle.machine.specs.Bought.{bits_of, lines_of, room_of}
 use Rattle.machine.specs.Store.{empty, full, first, rest, added, occupancy}
@@ -16,36 +16,38 @@ use Rattle.machine.specs.Core.{Core, keep, flagged}
 use Rattle.machine.specs.Registers.{place_of, control_word, status_word, interrupt_word, interrupts_of, toggled, global_word, global_of}
 use Rattle.machine.specs.Control.{controlled, reset_again}
 
--- the refusals' numbers; 0 where there is none. "DECERR is never issued (003)."
+-- OKAY with a value, or SLVERR for a refusal. "DECERR is never issued (003)."
+abbrev pub Answer : Type 0
+Answer = Result ℕ Refusal
+
+abbrev pub number_of_refusal : Refusal → ℕ
+number_of_refusal LanesOrOffset = 10
+number_of_refusal NoRegister = 11
+number_of_refusal TxFull = 12
+number_of_refusal RxEmpty = 13
+number_of_refusal ResetValue = 14
+number_of_refusal TwoSelected = 15
+
+-- the refusal's number; 0 where there is none
 abbrev pub refusal_number : Answer → ℕ
-refusal_number (Okay v) = 0
-refusal_number LanesOrOffset = 10
-refusal_number NoRegister = 11
-refusal_number TxFull = 12
-refusal_number RxEmpty = 13
-refusal_number ResetValue = 14
-refusal_number TwoSelected = 15
+refusal_number (Ok v) = 0
+refusal_number (Err e) = number_of_refusal e
 
 -- "All refusals below give value 0 .."
 abbrev pub answer_value : Answer → ℕ
-answer_value (Okay v) = v
-answer_value LanesOrOffset = 0
-answer_value NoRegister = 0
-answer_value TxFull = 0
-answer_value RxEmpty = 0
-answer_value ResetValue = 0
-answer_value TwoSelected = 0
+answer_value (Ok v) = v
+answer_value (Err e) = 0
 
 pub record Answered : Type 0 where
   pub answer : Answer
   pub core : Core
 
 -- ".. and an unchanged core."
-abbrev pub refuse : Answer → Core → Answered
-refuse a c = record { answer = a; core = c }
+abbrev pub refuse : Refusal → Core → Answered
+refuse e c = record { answer = Err e; core = c }
 
 abbrev pub accept : ℕ → Core → Answered
-accept v c = record { answer = Okay v; core = c }
+accept v c = record { answer = Ok v; core = c }
 
 -- ---- writes
 

@@ -5,7 +5,6 @@ use Rattle.machine.specs.declared.Outputs.{Outputs}
 use Rattle.machine.specs.declared.Outcome.{Outcome}
 use Rattle.machine.specs.declared.Outcome.TheVariants.{Nothing}
 use Rattle.machine.specs.declared.Access.{Access}
-use Rattle.machine.specs.declared.Answer.{Answer}
 use Rattle.machine.specs.declared.Side.{Side}
 use Rattle.machine.specs.declared.Side.TheVariants.{Master, Slave}
 use Rattle.machine.specs.declared.Ended.{Ended}
@@ -13,7 +12,7 @@ use Rattle.machine.specs.declared.Ended.TheVariants.{Drained, LimitSpent}
 use Rattle.machine.specs.Element.{level_of}
 use Rattle.machine.specs.Store.{empty}
 use Rattle.machine.specs.Core.{Core, Stepped}
-use Rattle.machine.specs.Access.{refusal_number, access, read, write}
+use Rattle.machine.specs.Access.{Answer, refusal_number, access, read, write}
 use Rattle.machine.specs.Master.{tick}
 use Rattle.machine.specs.Slave.{line_step}
 use Rattle.machine.specs.Lines.{is_idle, outputs}

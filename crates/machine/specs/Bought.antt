@@ -1,8 +1,8 @@
 -- "The core as bought": what setup allows, and the numbers that follow from it. Assumes nothing.
-use Rattle.std.specs.Prelude.{Bool, not, ◌&&◌, ◌||◌, cond, ℕ, zero, suc, ◌+◌, ◌/◌, min, leb, eqb}
+use Rattle.std.specs.Prelude.{Bool, not, ◌&&◌, ◌||◌, cond, ℕ, zero, suc, ◌+◌, ◌/◌, min, leb, eqb, Result, Ok, Err}
 use Rattle.machine.specs.declared.Setup.{Setup}
-use Rattle.machine.specs.declared.Bought.{Bought}
-use Rattle.machine.specs.declared.Bought.TheVariants.{Allowed, Width, Depth, Slaves}
+use Rattle.machine.specs.declared.SetupRefusal.{SetupRefusal}
+use Rattle.machine.specs.declared.SetupRefusal.TheVariants.{Width, Depth, Slaves}
 
 -- "Width N is 8, 16 or 32."
 abbrev pub is_width : ℕ → Bool
@@ -16,19 +16,27 @@ is_depth d = eqb d 0 || eqb d 16
 abbrev pub is_slaves : ℕ → Bool
 is_slaves k = leb 1 k && leb k 32
 
+-- the core as bought, or what setup refuses
+abbrev pub Bought : Type 0
+Bought = Result Setup SetupRefusal
+
 -- "Setup refusals, in order, yield no core: 1 width, 2 depth, 3 slave count."
 unfoldable pub bought : ℕ → ℕ → ℕ → Bought
 bought n d k =
-    cond (not (is_width n)) Width
-    (cond (not (is_depth d)) Depth
-    (cond (not (is_slaves k)) Slaves
-    (Allowed (record { width = n; depth = d; slaves = k }))))
+    cond (not (is_width n)) (Err Width)
+    (cond (not (is_depth d)) (Err Depth)
+    (cond (not (is_slaves k)) (Err Slaves)
+    (Ok (record { width = n; depth = d; slaves = k }))))
 
+abbrev pub number_of_setup_refusal : SetupRefusal → ℕ
+number_of_setup_refusal Width = 1
+number_of_setup_refusal Depth = 2
+number_of_setup_refusal Slaves = 3
+
+-- 0 where setup refuses nothing
 abbrev pub setup_number : Bought → ℕ
-setup_number (Allowed z) = 0
-setup_number Width = 1
-setup_number Depth = 2
-setup_number Slaves = 3
+setup_number (Ok z) = 0
+setup_number (Err e) = number_of_setup_refusal e
 
 -- N and K. The bounds change nothing that setup allows: an element and the select lines are 32 bits at most
 abbrev pub bits_of : Setup → ℕ

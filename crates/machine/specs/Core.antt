@@ -1,5 +1,5 @@
 -- One core: what it holds between two calls, and its power-on values. Assumes nothing.
-use Rattle.std.specs.Prelude.{Bool, true, false, not, ◌&&◌, List, [], ℕ, ◌-◌, ◌^◌}
+use Rattle.std.specs.Prelude.{Bool, true, false, not, ◌&&◌, List, [], ℕ, ◌-◌, ◌^◌, Result, Ok, Err}
 use Rattle.machine.specs.declared.Setup.{Setup}
 use Rattle.machine.specs.declared.Mode.{Mode}
 use Rattle.machine.specs.declared.Interrupts.{Interrupts}
@@ -9,29 +9,17 @@ use Rattle.machine.specs.declared.Transfer.{Transfer}
 use Rattle.machine.specs.declared.Transfer.TheVariants.{Idle}
 use Rattle.machine.specs.declared.Outcome.{Outcome}
 use Rattle.machine.specs.declared.Outcome.TheVariants.{Nothing, MovedOn, Stored, Lost, Starved, Abandoned}
-use Rattle.machine.specs.declared.Bought.{Bought}
-use Rattle.machine.specs.declared.Bought.TheVariants.{Allowed, Width, Depth, Slaves}
-use Rattle.machine.specs.Bought.{lines_of, bought, setup_number}
+use Rattle.machine.specs.declared.SetupRefusal.{SetupRefusal}
+use Rattle.machine.specs.declared.Held.{Held as HeldOf}
+use Rattle.machine.specs.declared.Core.{Core as CoreOf}
+use Rattle.machine.specs.Bought.{lines_of, Bought, bought}
 
--- the two stores and the flags: all that a finish changes, and all that an access changes that is no control, select or reset write
-pub record Held : Type 0 where
-  pub tx : List ℕ
-  pub rx : List ℕ
-  pub flags : Flags
+-- a core, and its two stores and flags, where a store is the list of its elements
+abbrev pub Held : Type 0
+Held = HeldOf (List ℕ)
 
-pub record Core : Type 0 where
-  pub setup : Setup
-  pub mode : Mode
-  -- SPISSR
-  pub select : ℕ
-  pub held : Held
-  pub transfer : Transfer
-  -- "MOSI holds its last level, 0 after reset."
-  pub mosi : Bool
-  -- the line levels seen last
-  pub seen : Levels
-  -- sits out line edges until SPISEL is high
-  pub sitting : Bool
+abbrev pub Core : Type 0
+Core = CoreOf (List ℕ)
 
 -- "An enabled master", "an enabled slave"
 abbrev pub is_master : Mode → Bool
@@ -122,18 +110,12 @@ unfoldable pub power_on : Setup → Core
 unfolding reset
 power_on z = reset z (record { spisel = true; sck = false; mosi = false })
 
--- "Setup refusals, in order, yield no core": a core at power-on, or the refusal's number
-pub data Made : Type 0 where
-  made : Core → Made
-  refused : ℕ → Made
+-- "Setup refusals, in order, yield no core": a core at power-on, or what is refused
+abbrev pub made_of : Bought → Result Core SetupRefusal
+made_of (Ok z) = Ok (power_on z)
+made_of (Err e) = Err e
 
-abbrev pub made_of : Bought → Made
-made_of (Allowed z) = made (power_on z)
-made_of Width = refused (setup_number Width)
-made_of Depth = refused (setup_number Depth)
-made_of Slaves = refused (setup_number Slaves)
-
-unfoldable pub setup : ℕ → ℕ → ℕ → Made
+unfoldable pub setup : ℕ → ℕ → ℕ → Result Core SetupRefusal
 unfolding bought power_on
 setup n d k = made_of (bought n d k)
 

@@ -5,6 +5,7 @@ pub mod Core
 pub mod Registers
 pub mod Control
 pub mod Access
+pub mod Words
 pub mod Transfer
 pub mod Master
 pub mod Slave

@@ -4,6 +4,8 @@ use Rattle.machine.specs.declared.Outputs.{Outputs}
 use Rattle.machine.specs.declared.Entry.{Entry}
 use Rattle.machine.specs.declared.Entry.TheVariants.{Setup, Access, Step}
 use Rattle.machine.specs.Element.{word_of}
+use Rattle.machine.specs.Core.{outcome_number, outcome_element}
+use Rattle.machine.specs.Access.{refusal_number, answer_value}
 
 -- "all little-endian"
 abbrev pub pair : ℕ → List ℕ
@@ -24,11 +26,12 @@ lines_byte o = word_of (o.sck ∷ o.mosi ∷ o.miso ∷ o.interrupt ∷ o.driven
 -- "Setup: one byte 0. Access: refusal 1, value 4 (0 for writes). Tick and step: outcome 1, element 4, lines 1 (..), SS 4"
 abbrev pub entry_payload : Entry → List ℕ
 entry_payload Setup = 0 ∷ []
-entry_payload (Access refusal value) = refusal ∷ quad value
-entry_payload (Step outcome element lines ss) = (outcome ∷ quad element) ++ (lines ∷ quad ss)
+entry_payload (Access a) = refusal_number a ∷ quad (answer_value a)
+entry_payload (Step o lines) = (outcome_number o ∷ quad (outcome_element o)) ++ (lines_byte lines ∷ quad lines.ss)
 
 -- "Log kind is script kind + 0x8000."
 unfoldable pub entry_bytes : ℕ → Entry → List ℕ
+unfolding lines_byte
 entry_bytes kind e = record_of (kind + 0x8000) (entry_payload e)
 
 -- "and then a record of kind 0xFFFF: number 1, place 4"

@@ -1,19 +1,20 @@
 -- "Scripts and logs": playing a script. All follows from its bytes, the room lent for the log and the limit of records. Assumes nothing.
-use Rattle.std.specs.Prelude.{Bool, true, false, cond, List, [], ◌++◌, ℕ, zero, suc, ◌+◌, ◌-◌, length, ltb, eqb}
+use Rattle.std.specs.Prelude.{Bool, true, false, cond, List, [], ◌++◌, ℕ, zero, suc, ◌+◌, ◌-◌, length, ltb, eqb, Result, Ok, Err}
 use Rattle.machine.specs.declared.Found.{Found}
 use Rattle.machine.specs.declared.Found.TheVariants.{Whole, CutShort, End}
 use Rattle.machine.specs.declared.Command.{Command}
 use Rattle.machine.specs.declared.Command.TheVariants.{Setup, Write, Read, Tick, LineStep, Unknown}
+use Rattle.machine.specs.declared.SetupRefusal.{SetupRefusal}
 use Rattle.machine.specs.declared.Levels.{Levels}
 use Rattle.machine.specs.declared.Entry.TheVariants as entry
 use Rattle.machine.specs.Element.{level_of}
-use Rattle.machine.specs.Core.{Core, Stepped, Made, made, refused, setup, outcome_number, outcome_element}
-use Rattle.machine.specs.Access.{Answered, refusal_number, answer_value, read, write}
+use Rattle.machine.specs.Core.{Core, Stepped, setup}
+use Rattle.machine.specs.Access.{Answered, read, write}
 use Rattle.machine.specs.Master.{tick}
 use Rattle.machine.specs.Slave.{line_step}
 use Rattle.machine.specs.Lines.{outputs}
 use Rattle.machine.specs.Records.{find, payload, command, kind_number, judge}
-use Rattle.machine.specs.Log.{lines_byte, entry_bytes, last_record}
+use Rattle.machine.specs.Log.{entry_bytes, last_record}
 
 -- ---- carrying out a record
 
@@ -32,33 +33,22 @@ pub record Carried : Type 0 where
 
 -- what the log says of an access, and of a tick or line step. "Access refusals are logged and don't stop a script."
 abbrev pub accessed : ℕ → Answered → Carried
-accessed kind r = record {
-  stage = running r.core;
-  log = entry_bytes kind (entry.Access (refusal_number r.answer) (answer_value r.answer));
-}
+accessed kind r = record { stage = running r.core; log = entry_bytes kind (entry.Access r.answer) }
 
 abbrev pub stepped : ℕ → Stepped → Carried
-stepped kind r = record {
-  stage = running r.core;
-  log = entry_bytes kind
-      (entry.Step
-      (outcome_number r.outcome)
-      (outcome_element r.outcome)
-      (lines_byte (outputs r.core))
-      (outputs r.core).ss);
-}
+stepped kind r = record { stage = running r.core; log = entry_bytes kind (entry.Step r.outcome (outputs r.core)) }
 
 -- "4 line step (1 byte: bit 0 SPISEL, 1 SCK, 2 MOSI)"
 abbrev pub levels_of : ℕ → Levels
 levels_of b = record { spisel = level_of b 0; sck = level_of b 1; mosi = level_of b 2 }
 
-abbrev pub set_up : ℕ → Made → Carried
-set_up kind (made c) = record { stage = running c; log = entry_bytes kind entry.Setup }
-set_up kind (refused n) = record { stage = bare; log = [] }
+abbrev pub set_up : ℕ → Result Core SetupRefusal → Carried
+set_up kind (Ok c) = record { stage = running c; log = entry_bytes kind entry.Setup }
+set_up kind (Err e) = record { stage = bare; log = [] }
 
 -- a setup makes the core, and the rest asks it. What `judge` stops is not carried out
 unfoldable pub carry : Stage → Command → Carried
-unfolding setup read write tick line_step outputs lines_byte entry_bytes
+unfolding setup read write tick line_step outputs entry_bytes
 carry bare (Setup w d k) = set_up (kind_number (Setup w d k)) (setup w d k)
 carry bare (Write o l v) = record { stage = bare; log = [] }
 carry bare (Read o l) = record { stage = bare; log = [] }

@@ -2,27 +2,67 @@
 // specs/ and the code of the other crates speak of these same values; only the stores are lists there and cells in the code.
 #![tactic(auto)]
 
+ghost use Rattle.std.specs.Prelude.{◌≡◌, Some};
+ghost use Rattle.machine.specs.Bought.{number_of_setup_refusal};
+ghost use Rattle.machine.specs.Access.{number_of_refusal};
+ghost use Rattle.machine.specs.Words.{words_of_setup_refusal, setup_refusal_text, words_of_refusal, refusal_text};
+
+use std::fmt;
+
 // ---- The core as bought
 
 // Width N, FIFO depth and slave count K.
-#[derive(Clone, Copy)]
+#[derive(Clone, Copy, Debug, PartialEq, Eq)]
 pub struct Setup {
     pub width: u32,
     pub depth: u32,
     pub slaves: u32,
 }
 
-// What setup answers: the core as bought, or what it refuses.
-#[derive(Clone, Copy)]
-pub enum Bought {
-    Allowed(Setup),
+// What setup refuses.
+#[derive(Clone, Copy, Debug, PartialEq, Eq)]
+pub enum SetupRefusal {
     Width,
     Depth,
     Slaves,
 }
 
+impl SetupRefusal {
+    pub fn number(self) -> u32
+        ensures { result ≡ number_of_setup_refusal self }
+    {
+        match self {
+            SetupRefusal::Width => 1,
+            SetupRefusal::Depth => 2,
+            SetupRefusal::Slaves => 3,
+        }
+    }
+
+    fn words(self) -> &'static str
+        ensures { result.now ≡ words_of_setup_refusal self }
+    {
+        match self {
+            SetupRefusal::Width => "width",
+            SetupRefusal::Depth => "depth",
+            SetupRefusal::Slaves => "slave count",
+        }
+    }
+}
+
+// As `3: slave count`.
+impl fmt::Display for SetupRefusal {
+    ghost output = { λ e. Some (setup_refusal_text e) };
+
+    fn fmt<W: fmt::Write>(&self, f: &mut fmt::Formatter<W>) -> fmt::Result {
+        write!(f, "{}: {}", self.number(), self.words())
+    }
+}
+
+// What setup answers: the core as bought, or what it refuses.
+pub type Bought = Result<Setup, SetupRefusal>;
+
 // The registers, in the order of their offsets.
-#[derive(Clone, Copy)]
+#[derive(Clone, Copy, Debug, PartialEq, Eq)]
 pub enum Register {
     Dgier,
     Ipisr,
@@ -38,14 +78,14 @@ pub enum Register {
 }
 
 // What answers at an offset.
-#[derive(Clone, Copy)]
+#[derive(Clone, Copy, Debug, PartialEq, Eq)]
 pub enum Place {
     Register(Register),
     Nothing,
 }
 
 // The bits of SPICR that are kept: 5 and 6 act as they are written, and never are.
-#[derive(Clone, Copy)]
+#[derive(Clone, Copy, Debug, Default, PartialEq, Eq)]
 pub struct Mode {
     pub loopback: bool,
     pub enable: bool,
@@ -58,7 +98,7 @@ pub struct Mode {
 }
 
 // Bits 0 to 8 of IPISR and of IPIER, in that order.
-#[derive(Clone, Copy)]
+#[derive(Clone, Copy, Debug, Default, PartialEq, Eq)]
 pub struct Interrupts {
     // MODF: SPISEL fell with the master bit set.
     pub modf: bool,
@@ -79,7 +119,7 @@ pub struct Interrupts {
 }
 
 // IPISR, IPIER, DGIER's bit and SPISR's MODF.
-#[derive(Clone, Copy)]
+#[derive(Clone, Copy, Debug, Default, PartialEq, Eq)]
 pub struct Flags {
     pub ipisr: Interrupts,
     pub ipier: Interrupts,
@@ -91,7 +131,7 @@ pub struct Flags {
 
 // An element under way: the bits left, whether the odd edge of the first of them is done, what is sent in wire order, what
 // came in so far, and whether the store was empty when it was decided.
-#[derive(Clone, Copy)]
+#[derive(Clone, Copy, Debug, PartialEq, Eq)]
 pub struct Shift {
     pub left: u32,
     pub odd: bool,
@@ -100,7 +140,7 @@ pub struct Shift {
     pub starved: bool,
 }
 
-#[derive(Clone, Copy)]
+#[derive(Clone, Copy, Debug, PartialEq, Eq)]
 pub enum Transfer {
     Idle,
     Moving(Shift),
@@ -108,14 +148,14 @@ pub enum Transfer {
 }
 
 // What an edge leaves: a transfer that goes on, or behind its last edge what came in, in wire order.
-#[derive(Clone, Copy)]
+#[derive(Clone, Copy, Debug, PartialEq, Eq)]
 pub enum Edge {
     On(Shift),
     Over(u32),
 }
 
 // The levels of a line step.
-#[derive(Clone, Copy)]
+#[derive(Clone, Copy, Debug, PartialEq, Eq)]
 pub struct Levels {
     pub spisel: bool,
     pub sck: bool,
@@ -123,7 +163,7 @@ pub struct Levels {
 }
 
 // A core's own outputs.
-#[derive(Clone, Copy)]
+#[derive(Clone, Copy, Debug, PartialEq, Eq)]
 pub struct Outputs {
     pub sck: bool,
     pub mosi: bool,
@@ -134,7 +174,7 @@ pub struct Outputs {
 }
 
 // What a tick or a line step came to.
-#[derive(Clone, Copy)]
+#[derive(Clone, Copy, Debug, PartialEq, Eq)]
 pub enum Outcome {
     Nothing,
     MovedOn,
@@ -144,18 +184,44 @@ pub enum Outcome {
     Abandoned,
 }
 
+// ---- What a core holds between two calls. S is what a store is: the list of its elements in the definitions, `store::Store` in the
+// code, which clauses see as that list
+
+// The two stores and the flags: all that a finish changes, and all that an access changes that is no control, select or reset write.
+#[derive(Clone, Drop)]
+pub struct Held<S> {
+    pub tx: S,
+    pub rx: S,
+    pub flags: Flags,
+}
+
+#[derive(Clone, Drop)]
+pub struct Core<S> {
+    pub setup: Setup,
+    pub mode: Mode,
+    // SPISSR.
+    pub select: u32,
+    pub held: Held<S>,
+    pub transfer: Transfer,
+    // "MOSI holds its last level, 0 after reset."
+    pub mosi: bool,
+    // The line levels seen last.
+    pub seen: Levels,
+    // Sits out line edges until SPISEL is high.
+    pub sitting: bool,
+}
+
 // ---- The bus
 
-#[derive(Clone, Copy)]
+#[derive(Clone, Copy, Debug, PartialEq, Eq)]
 pub enum Access {
     Write { offset: u32, lanes: u32, value: u32 },
     Read { offset: u32, lanes: u32 },
 }
 
-// What the bus says: OKAY with a value, or SLVERR for one of the refusals.
-#[derive(Clone, Copy)]
-pub enum Answer {
-    Okay(u32),
+// What the bus refuses.
+#[derive(Clone, Copy, Debug, PartialEq, Eq)]
+pub enum Refusal {
     LanesOrOffset,
     NoRegister,
     TxFull,
@@ -164,16 +230,56 @@ pub enum Answer {
     TwoSelected,
 }
 
+impl Refusal {
+    pub fn number(self) -> u32
+        ensures { result ≡ number_of_refusal self }
+    {
+        match self {
+            Refusal::LanesOrOffset => 10,
+            Refusal::NoRegister => 11,
+            Refusal::TxFull => 12,
+            Refusal::RxEmpty => 13,
+            Refusal::ResetValue => 14,
+            Refusal::TwoSelected => 15,
+        }
+    }
+
+    fn words(self) -> &'static str
+        ensures { result.now ≡ words_of_refusal self }
+    {
+        match self {
+            Refusal::LanesOrOffset => "lanes other than 15, or offset not a multiple of 4",
+            Refusal::NoRegister => "no register there",
+            Refusal::TxFull => "SPIDTR written while its store is full",
+            Refusal::RxEmpty => "SPIDRR read while its store is empty",
+            Refusal::ResetValue => "SRR written with another value than 0xA",
+            Refusal::TwoSelected => "SPISSR written with two or more zeros in its K bits",
+        }
+    }
+}
+
+// As `12: SPIDTR written while its store is full`.
+impl fmt::Display for Refusal {
+    ghost output = { λ e. Some (refusal_text e) };
+
+    fn fmt<W: fmt::Write>(&self, f: &mut fmt::Formatter<W>) -> fmt::Result {
+        write!(f, "{}: {}", self.number(), self.words())
+    }
+}
+
+// What the bus says: OKAY with a value, or SLVERR for one of the refusals.
+pub type Answer = Result<u32, Refusal>;
+
 // ---- The joined bench
 
-#[derive(Clone, Copy)]
+#[derive(Clone, Copy, Debug, PartialEq, Eq)]
 pub enum Side {
     Master,
     Slave,
 }
 
 // How a run ended: the master is idle with an empty Tx store, or the limit of ticks is spent.
-#[derive(Clone, Copy)]
+#[derive(Clone, Copy, Debug, PartialEq, Eq)]
 pub enum Ended {
     Drained,
     LimitSpent,
@@ -182,7 +288,7 @@ pub enum Ended {
 // ---- Scripts and logs
 
 // What stands at a place of a script.
-#[derive(Clone, Copy)]
+#[derive(Clone, Copy, Debug, PartialEq, Eq)]
 pub enum Found {
     // A whole record: its kind, the length of its payload, and the place of the next.
     Whole { kind: u32, len: usize, next: usize },
@@ -193,7 +299,7 @@ pub enum Found {
 }
 
 // What a record asks for.
-#[derive(Clone, Copy)]
+#[derive(Clone, Copy, Debug, PartialEq, Eq)]
 pub enum Command {
     Setup { width: u32, depth: u32, slaves: u32 },
     Write { offset: u32, lanes: u32, value: u32 },
@@ -204,17 +310,10 @@ pub enum Command {
 }
 
 // What a log record says of the command that it answers.
-#[derive(Clone, Copy)]
+#[derive(Clone, Copy, Debug, PartialEq, Eq)]
 pub enum Entry {
     Setup,
-    Access {
-        refusal: u32,
-        value: u32,
-    },
-    Step {
-        outcome: u32,
-        element: u32,
-        lines: u32,
-        ss: u32,
-    },
+    Access(Answer),
+    // What a tick or a line step came to, and the core's own outputs afterwards.
+    Step { outcome: Outcome, lines: Outputs },
 }

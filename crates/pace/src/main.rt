@@ -2,70 +2,50 @@
 // the elements read back.
 #![tactic(auto)]
 
-use bus::setup::Made;
-use machine::Outcome;
-use spi_core::Core;
+use bus::reads::read;
+use bus::setup::setup;
+use bus::writes::write;
+use machine::{Core, Outcome};
 use std::io;
+use store::Store;
 
-#[derive(Clone, Copy)]
+#[derive(Drop)]
 struct Pace {
-    core: Core,
+    core: Core<Store>,
     next: u32,
     sum: u64,
 }
 
-// A finished element is read back, and the next one written.
-fn turned(p: Pace, txc: &mut [u32; 256], rxc: &[u32; 256], element: u32) -> Pace {
-    let r = bus::reads::read(p.core, rxc, 0x6C, 15);
-    let w = bus::writes::write(r.core, txc, 0x68, 15, p.next);
-    let core = w.core;
-    Pace {
-        core,
-        next: p.next % 251 + 1,
-        sum: p.sum % 0x1_0000_0000 + element as u64,
+impl Pace {
+    // A finished element is read back, and the next one written.
+    fn turn(&mut self, element: u32) {
+        let _ = read(&mut self.core, 0x6C, 15);
+        let _ = write(&mut self.core, 0x68, 15, self.next);
+        self.next = self.next % 251 + 1;
+        self.sum = self.sum % 0x1_0000_0000 + u64::from(element);
     }
-}
 
-fn ticked(p: Pace, txc: &mut [u32; 256], rxc: &mut [u32; 256]) -> Pace {
-    let s = spi_core::master::tick(p.core, txc, rxc, true);
-    let core = s.core;
-    let q = Pace {
-        core,
-        next: p.next,
-        sum: p.sum,
-    };
-    let o = s.outcome;
-    match o {
-        Outcome::Nothing => q,
-        Outcome::MovedOn => q,
-        Outcome::Stored(x) => turned(q, txc, rxc, x),
-        Outcome::Lost(_) => q,
-        Outcome::Starved => q,
-        Outcome::Abandoned => q,
+    fn tick(&mut self) {
+        if let Outcome::Stored(element) = spi_core::master::tick(&mut self.core, true) {
+            self.turn(element);
+        }
     }
 }
 
 fn main(rt: HostRuntime) -> io::Result<()> {
-    let mut txc = [0u32; 256];
-    let mut rxc = [0u32; 256];
-    let made = bus::setup::setup(8, 16, 1);
-    let Made::Core(bought) = made else {
+    let Ok(mut core) = setup(8, 16, 1) else {
         return Ok(());
     };
-    let on = bus::writes::write(bought, &mut txc, 0x60, 15, 0x87);
-    let first = bus::writes::write(on.core, &mut txc, 0x68, 15, 1);
-    let second = bus::writes::write(first.core, &mut txc, 0x68, 15, 2);
-    let core = second.core;
-    let mut p = Pace {
+    for (offset, value) in [(0x60, 0x87), (0x68, 1), (0x68, 2)] {
+        let _ = write(&mut core, offset, 15, value);
+    }
+    let mut pace = Pace {
         core,
         next: 3,
         sum: 0,
     };
-    let mut left: u32 = 18_000_000;
-    while 0 < left {
-        p = ticked(p, &mut txc, &mut rxc);
-        left -= 1;
+    for _ in 0..18_000_000u32 {
+        pace.tick();
     }
-    let sum = p.sum;
-    println!(rt; "{sum}")
+    println!(rt; "{}", pace.sum)
 }

@@ -1,3 +1,0 @@
-mod LineLaws
-mod MasterLaws
-mod SlaveLaws

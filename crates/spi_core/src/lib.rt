@@ -1,36 +1,20 @@
-// One core of document 01: a small struct by value, and the cells of its two stores lent by the caller.
+// One core: what moves it, and what it shows.
 #![tactic(auto)]
 
-ghost use Rattle.std.specs.Prelude.{◌≡◌, ℕ, List, if◌then◌else◌};
+ghost use Rattle.std.specs.Prelude.{◌≡◌};
 ghost use Rattle.machine.specs.Core.{is_master, is_slave};
-ghost use Rattle.machine.specs.Registers.{differ, is_driving};
-ghost use Rattle.spi_core.specs.View.{view, unmoved};
+ghost use Rattle.machine.specs.Registers.{is_driving};
+ghost use Rattle.machine.specs.Transfer.{edge};
+ghost use Rattle.machine.specs.Bought.{bits_of};
+ghost use Rattle.spi_core.specs.Steps.{stepped, advanced};
 
-use machine::{Levels, Mode, Outcome, Setup, Transfer};
-use transfer::Held;
+use machine::{Core, Edge, Mode, Outcome, Shift, Transfer};
+use store::Store;
+use transfer::Wire;
 
 pub mod lines; // the lines that a core shows
 pub mod master; // a master's ticks
 pub mod slave; // a slave's line steps
-
-#[derive(Clone, Copy)]
-pub struct Core {
-    pub setup: Setup,
-    pub mode: Mode,
-    pub select: u32,
-    pub held: Held,
-    pub transfer: Transfer,
-    pub mosi: bool,
-    pub seen: Levels,
-    pub sitting: bool,
-}
-
-// What a tick or a line step gives.
-#[derive(Clone, Copy)]
-pub struct Stepped {
-    pub outcome: Outcome,
-    pub core: Core,
-}
 
 fn is_master(m: Mode) -> bool
     ensures { result ≡ is_master m }
@@ -44,30 +28,32 @@ fn is_slave(m: Mode) -> bool
     m.enable & !m.master
 }
 
-fn differ(a: bool, b: bool) -> bool
-    ensures { result ≡ differ a b }
-{
-    if a { !b } else { b }
-}
-
-fn picked(b: bool, yes: bool, no: bool) -> bool
-    ensures { result ≡ (if b then yes else no) }
-{
-    if b { yes } else { no }
-}
-
-fn unmoved(c: Core) -> Stepped
-    ensures { result ≡ unmoved c }
-{
-    Stepped {
-        outcome: Outcome::Nothing,
-        core: c,
-    }
-}
-
 // An enabled slave that has SPISEL low: it drives MISO.
-pub fn is_driving(c: Core) -> bool
-    ensures { (txc rxc : List ℕ) → result ≡ is_driving (view c txc rxc) }
+pub fn is_driving(core: &Core<Store>) -> bool
+    ensures { result ≡ is_driving core.now }
 {
-    is_slave(c.mode) & !c.seen.spisel
+    is_slave(core.mode) & !core.seen.spisel
+}
+
+// An edge of the element s, at which its line has this level: it goes on, or its last edge finishes it. Then comes a master's gap.
+fn advance(core: &mut Core<Store>, s: Shift, level: bool, going: Outcome, slave: bool) -> Outcome
+    ensures { stepped result core.new ≡ advanced (edge core.old.mode.cpha (bits_of core.old.setup) level s) going s.starved slave core.old }
+{
+    let wire = Wire::of(core);
+    match wire.edge(level, s) {
+        Edge::On(t) => {
+            core.transfer = Transfer::Moving(t);
+            going
+        }
+        Edge::Over(got) => {
+            core.transfer = if slave { Transfer::Idle } else { Transfer::Gap };
+            transfer::finish(
+                &mut core.held,
+                core.setup,
+                slave,
+                s.starved,
+                wire.on_wire(got),
+            )
+        }
+    }
 }

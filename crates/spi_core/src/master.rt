@@ -1,97 +1,53 @@
 // "A master's ticks".
-ghost use Rattle.std.specs.Prelude.{◌≡◌, ℕ, List};
-ghost use Rattle.machine.specs.Master.{start_at, tick_at, tick};
-ghost use Rattle.store.specs.Held.{held};
-ghost use Rattle.spi_core.specs.View.{view, stepped, ran};
+ghost use Rattle.std.specs.Prelude.{◌≡◌};
+ghost use Rattle.machine.specs.Master.{start_at, heard, ran_at, tick};
+ghost use Rattle.machine.specs.Transfer.{edge};
+ghost use Rattle.machine.specs.Bought.{bits_of};
+ghost use Rattle.spi_core.specs.Steps.{stepped};
 
-use crate::{Core, Stepped, is_master, picked, unmoved};
-use machine::{Edge, Outcome, Shift, Transfer};
+use crate::{advance, is_master};
+use machine::{Core, Outcome, Shift, Transfer};
+use store::Store;
+use transfer::Wire;
 
 // An idle master starts if it is not inhibited and has an element.
-fn start(c: Core, txc: &[u32; 256]) -> Stepped
-    ensures { (rxc : List ℕ) → stepped result txc.now rxc ≡ start_at c.mode.inhibit (held c.held.tx txc.now) (view c txc.now rxc) }
+fn start(core: &mut Core<Store>) -> Outcome
+    ensures { stepped result core.new ≡ start_at core.old.mode.inhibit core.old.held.tx core.old }
 {
-    let m = c.mode;
-    let h = c.held;
-    if m.inhibit {
-        return unmoved(c);
+    if core.mode.inhibit || core.held.tx.is_empty() {
+        return Outcome::Nothing;
     }
-    if store::is_empty(h.tx) {
-        return unmoved(c);
+    let s = Wire::of(core).decided(&core.held.tx);
+    core.transfer = Transfer::Moving(s);
+    if !core.mode.cpha {
+        core.mosi = transfer::first_level(s.left, s.out);
     }
-    let s = transfer::decided(m.lsb, c.setup.width, h.tx, txc);
-    let first = transfer::first_level(s.left, s.out);
-    let mosi = picked(m.cpha, c.mosi, first);
-    Stepped {
-        outcome: Outcome::MovedOn,
-        core: Core {
-            transfer: Transfer::Moving(s),
-            mosi,
-            ..c
-        },
-    }
+    Outcome::MovedOn
 }
 
-// An edge of the element s, whose last is the finish.
-fn ran(c: Core, txc: &[u32; 256], rxc: &mut [u32; 256], miso: bool, s: Shift) -> Stepped
-    ensures { stepped result txc.now rxc.new ≡ ran miso s (view c txc.now rxc.old) }
+// An edge of the element s, whose last is the finish; then comes the gap.
+fn run(core: &mut Core<Store>, s: Shift, miso: bool) -> Outcome
+    ensures { stepped result core.new ≡ ran_at (edge core.old.mode.cpha (bits_of core.old.setup) (heard miso core.old) s) s core.old }
 {
-    let m = c.mode;
-    let z = c.setup;
-    let heard = picked(m.loopback, c.mosi, miso);
-    let mosi = transfer::changed(m.cpha, s, c.mosi);
-    let e = transfer::edge(m.cpha, z.width, heard, s);
-    match e {
-        Edge::On(t) => Stepped {
-            outcome: Outcome::MovedOn,
-            core: Core {
-                transfer: Transfer::Moving(t),
-                mosi,
-                ..c
-            },
-        },
-        Edge::Over(got) => {
-            let x = transfer::on_wire(m.lsb, z.width, got);
-            let f = transfer::finish(z, false, s.starved, x, c.held, txc, rxc);
-            let held = f.held;
-            let outcome = f.outcome;
-            Stepped {
-                outcome,
-                core: Core {
-                    held,
-                    transfer: Transfer::Gap,
-                    mosi,
-                    ..c
-                },
-            }
-        }
-    }
-}
-
-// A tick of an enabled master: "a start tick, then 2N edge ticks, then one gap tick".
-fn ticked(c: Core, txc: &[u32; 256], rxc: &mut [u32; 256], miso: bool) -> Stepped
-    ensures { stepped result txc.now rxc.new ≡ tick_at c.transfer miso (view c txc.now rxc.old) }
-{
-    let t = c.transfer;
-    match t {
-        Transfer::Idle => start(c, txc),
-        Transfer::Moving(s) => ran(c, txc, rxc, miso, s),
-        Transfer::Gap => Stepped {
-            outcome: Outcome::MovedOn,
-            core: Core {
-                transfer: Transfer::Idle,
-                ..c
-            },
-        },
-    }
+    let heard = if core.mode.loopback { core.mosi } else { miso };
+    core.mosi = Wire::of(core).changed(s, core.mosi);
+    advance(core, s, heard, Outcome::MovedOn, false)
 }
 
 // One tick: half an SCK period, with the MISO level standing before it. "Ticking any other core changes nothing."
-pub fn tick(c: Core, txc: &[u32; 256], rxc: &mut [u32; 256], miso: bool) -> Stepped
-    ensures { stepped result txc.now rxc.new ≡ tick miso (view c txc.now rxc.old) }
+#[tactic(auto, unfolding(machine::specs::Master::tick))]
+pub fn tick(core: &mut Core<Store>, miso: bool) -> Outcome
+    ensures { stepped result core.new ≡ tick miso core.old }
 {
-    if is_master(c.mode) {
-        return ticked(c, txc, rxc, miso);
+    if !is_master(core.mode) {
+        return Outcome::Nothing;
     }
-    unmoved(c)
+    match core.transfer {
+        Transfer::Idle => start(core),
+        Transfer::Moving(s) => run(core, s, miso),
+        Transfer::Gap => {
+            core.transfer = Transfer::Idle;
+            Outcome::MovedOn
+        }
+    }
 }

@@ -1,110 +1,132 @@
-// A first-in first-out store over cells that the caller lends: the elements stand one behind the other from cell `head` on, round
-// the 256 cells. Every value of a Ring is a store, and what it holds is a list.
+// A first-in first-out store: its elements stand one behind the other, from the ring's head on, round the 256 cells. Clauses see
+// the list of them, and not where they stand.
 #![tactic(auto)]
 
-ghost use Rattle.std.specs.Prelude.{◌≡◌, List, ℕ, min, length};
-ghost use Rattle.machine.specs.Store.{empty, full, first};
-ghost use Rattle.store.specs.Held.{held, empty_ring, Puts, Takes};
+ghost use Rattle.std.specs.Prelude.{◌≡◌, List, ℕ, [], min, length, OnErr};
+ghost use Rattle.machine.specs.Store.{empty, full};
+ghost use Rattle.store.specs.Cells.{held, front, empty_ring, Puts, Takes};
 
+use std::marker::Model;
+
+// What `put` says of a store that has no room.
+#[derive(Clone, Copy, Debug, PartialEq, Eq)]
+pub struct Full;
+
+// Where the elements stand: how many from which cell on.
 #[derive(Clone, Copy)]
 pub struct Ring {
     pub head: u32,
     pub count: u32,
 }
 
-#[derive(Clone, Copy)]
-pub struct Placed {
-    pub ring: Ring,
-    pub stored: bool,
-}
-
-#[derive(Clone, Copy)]
-pub struct Taken {
-    pub ring: Ring,
-    pub element: u32,
-}
-
-// A store that holds nothing.
-pub fn empty() -> Ring
-    ensures { result ≡ empty_ring }
-{
-    Ring { head: 0, count: 0 }
-}
-
-// How many elements it holds.
-pub fn count(r: Ring) -> u32
-    ensures { (cells : List ℕ) → result ≡ length (held r cells) }
-{
-    r.count
-}
-
-pub fn is_empty(r: Ring) -> bool
-    ensures { (cells : List ℕ) → result ≡ empty (held r cells) }
-{
-    let n = r.count;
-    n == 0
-}
-
-// The first element, 0 where there is none.
-pub fn first(r: Ring, cells: &[u32; 256]) -> u32
-    ensures { result ≡ first (held r cells.now) }
-{
-    let n = r.count;
-    if n == 0 {
-        return 0;
+impl Ring {
+    // No element, from cell 0 on.
+    pub fn empty() -> Self
+        ensures { result ≡ empty_ring }
+    {
+        Ring { head: 0, count: 0 }
     }
-    let at = (r.head % 256) as usize;
-    cells[at]
-}
 
-// The first element leaves.
-pub fn take(r: Ring, cells: &[u32; 256]) -> Taken
-    ensures { Takes r result cells.now }
-{
-    let element = first(r, cells);
-    let n = r.count;
-    if n == 0 {
-        return Taken { ring: r, element };
+    // Whether there are `room` elements, or as many as there are cells.
+    pub fn is_full(self, room: u32) -> bool
+        ensures { (cells : List ℕ) → result ≡ full (min room 256) (held self cells) }
+    {
+        room <= self.count || 256 <= self.count
     }
-    let head = r.head % 256 + 1;
-    let count = n - 1;
-    Taken {
-        ring: Ring { head, count },
-        element,
+
+    // One more element behind the others, unless there is no room: then neither the ring nor a cell changes.
+    pub fn put(&mut self, cells: &mut [u32; 256], room: u32, x: u32) -> Result<(), Full>
+        ensures puts { Puts (held self.old cells.old) room x result (held self.new cells.new) }
+        ensures same { OnErr result ((self.new ≡ self.old) × (cells.new ≡ cells.old)) }
+    {
+        if self.is_full(room) {
+            return Err(Full);
+        }
+        let at = (self.head % 256 + self.count) % 256;
+        cells[at as usize] = x;
+        self.count += 1;
+        Ok(())
     }
 }
 
-// Whether it holds `room` elements, or as many as there are cells.
-pub fn is_full(r: Ring, room: u32) -> bool
-    ensures { (cells : List ℕ) → result ≡ full (min room 256) (held r cells) }
-{
-    let n = r.count;
-    if room <= n {
-        return true;
-    }
-    256 <= n
+#[derive(Clone, Drop)]
+pub struct Store {
+    ring: Ring,
+    cells: [u32; 256],
 }
 
-// One more element behind the others, unless the store is full.
-pub fn put(r: Ring, cells: &mut [u32; 256], room: u32, x: u32) -> Placed
-    ensures { Puts r room x result cells.old cells.new }
-{
-    let n = r.count;
-    if is_full(r, room) {
-        return Placed {
-            ring: r,
-            stored: false,
-        };
+impl Model for Store {
+    ghost use Rattle.std.specs.Prelude.{ℕ, List};
+
+    ghost Value = { List ℕ };
+
+    ghost use Rattle.store.specs.Cells.{held};
+
+    ghost view = { λ s. held s.ring s.cells };
+}
+
+impl Store {
+    // A store that holds nothing.
+    pub fn new() -> Self
+        ensures { result ≡ [] }
+    {
+        Store {
+            ring: Ring::empty(),
+            cells: [0; 256],
+        }
     }
-    let at = ((r.head % 256 + n) % 256) as usize;
-    let all = &mut cells[..];
-    all[at] = x;
-    let count = n + 1;
-    Placed {
-        ring: Ring {
-            head: r.head,
-            count,
-        },
-        stored: true,
+
+    // How many elements it holds.
+    pub fn count(&self) -> u32
+        ensures { result ≡ length self.now }
+    {
+        self.ring.count
+    }
+
+    pub fn is_empty(&self) -> bool
+        ensures { result ≡ empty self.now }
+    {
+        self.ring.count == 0
+    }
+
+    // Whether it holds `room` elements, or as many as there are cells.
+    pub fn is_full(&self, room: u32) -> bool
+        ensures { result ≡ full (min room 256) self.now }
+    {
+        self.ring.is_full(room)
+    }
+
+    // The first element, which stays.
+    pub fn first(&self) -> Option<u32>
+        ensures { result ≡ front self.now }
+    {
+        if self.is_empty() {
+            return None;
+        }
+        Some(self.cells[(self.ring.head % 256) as usize])
+    }
+
+    // The first element leaves.
+    pub fn take(&mut self) -> Option<u32>
+        ensures { Takes self.old result self.new }
+    {
+        let element = self.first()?;
+        self.ring.head = self.ring.head % 256 + 1;
+        self.ring.count -= 1;
+        Some(element)
+    }
+
+    // One more element behind the others, unless the store is full.
+    pub fn put(&mut self, room: u32, x: u32) -> Result<(), Full>
+        ensures { Puts self.old room x result self.new }
+    {
+        self.ring.put(&mut self.cells, room, x)
+    }
+
+    // All elements leave.
+    pub fn clear(&mut self)
+        ensures { self.new ≡ [] }
+    {
+        self.ring = Ring::empty();
     }
 }

@@ -1,2 +1,2 @@
-mod Finishing
-mod Laws
+pub mod Edges
+pub mod Finishing
