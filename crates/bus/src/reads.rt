@@ -50,7 +50,7 @@ fn read_status(core: &mut Core<Store>) -> u32
 fn read_rx(core: &mut Core<Store>) -> Answer
     ensures { answered result core.new ≡ read_rx core.old }
 {
-    core.held.rx.take().ok_or(Refusal::RxEmpty)
+    core.held.rx.pop_front().ok_or(Refusal::RxEmpty)
 }
 
 // A read of a register that is there: a write-only one reads 0.

@@ -1,4 +1,4 @@
--- What a refusal prints: its number, and its words in document 01. Assumes nothing.
+-- What a refusal prints: its number, and its words in the table of refusals. Assumes nothing.
 use Rattle.std.specs.Prelude.{List, ◌++◌, ℕ, codes, decimal}
 use Rattle.machine.specs.declared.SetupRefusal.{SetupRefusal}
 use Rattle.machine.specs.declared.SetupRefusal.TheVariants.{Width, Depth, Slaves}

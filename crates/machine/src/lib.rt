@@ -1,5 +1,5 @@
 // The paper's plain types: what a core is bought as, what it holds, what it is asked and what it answers. The definitions of
-// specs/ and the code of the other crates speak of these same values; only the stores are lists there and cells in the code.
+// specs/ and the code of the other crates speak of these same values; only the stores are lists there, and `store::Store` in the code.
 #![tactic(auto)]
 
 ghost use Rattle.std.specs.Prelude.{◌≡◌, Some};

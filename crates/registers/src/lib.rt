@@ -141,7 +141,7 @@ impl Word for Interrupts {
 }
 
 // The bits of SPISR (000, Table 7).
-#[derive(Clone, Copy)]
+#[derive(Clone, Copy, Debug, PartialEq, Eq)]
 pub struct Status {
     pub rx_empty: bool,
     pub rx_full: bool,
@@ -209,7 +209,7 @@ pub fn interrupt_line(f: Flags) -> bool
         | i.half & j.half
         | i.selected & j.selected
         | i.arrived & j.arrived;
-    f.dgier && share
+    f.dgier & share
 }
 
 // Whether a SPICR write "changes any of bits 0 to 4, 7 or 9": any but bit 8.

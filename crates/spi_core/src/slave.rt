@@ -1,11 +1,11 @@
 // "A slave's lines".
 ghost use Rattle.std.specs.Prelude.{◌≡◌, true};
 ghost use Rattle.machine.specs.Core.{flagged};
-ghost use Rattle.machine.specs.Slave.{fallen, clocked_at, clocked, rose_at, line_step};
+ghost use Rattle.machine.specs.Slave.{fallen, followed, clocked_at, clocked, rose_at, line_step};
 ghost use Rattle.spi_core.specs.Steps.{stepped, if_slave};
 
 use crate::{advance, is_slave};
-use machine::{Core, Levels, Outcome, Transfer};
+use machine::{Core, Levels, Outcome, Shift, Transfer};
 use store::Store;
 use transfer::Wire;
 
@@ -21,6 +21,14 @@ fn fall(core: &mut Core<Store>)
     flags.ipisr.selected |= is_slave(m);
 }
 
+// An edge of the element s: "It samples the MOSI given with the step."
+fn follow(core: &mut Core<Store>, s: Shift, going: Outcome) -> Outcome
+    ensures { stepped result core.new ≡ followed s going core.old }
+{
+    let mosi = core.seen.mosi;
+    advance(core, s, mosi, going, true)
+}
+
 // A slave's start, which is its first edge: "if the store is empty it is starved".
 fn start(core: &mut Core<Store>) -> Outcome
     ensures { stepped result core.new ≡ clocked_at Transfer.Idle true core.old }
@@ -32,20 +40,16 @@ fn start(core: &mut Core<Store>) -> Outcome
     } else {
         Outcome::MovedOn
     };
-    let mosi = core.seen.mosi;
-    advance(core, s, mosi, going, true)
+    follow(core, s, going)
 }
 
-// An edge of SCK, away from CPOL or towards it: "It samples the MOSI given with the step."
+// An edge of SCK, away from CPOL or towards it.
 fn clock(core: &mut Core<Store>, away: bool) -> Outcome
     ensures { stepped result core.new ≡ clocked_at core.old.transfer away core.old }
 {
     match core.transfer {
         Transfer::Idle if away => start(core),
-        Transfer::Moving(s) => {
-            let mosi = core.seen.mosi;
-            advance(core, s, mosi, Outcome::MovedOn, true)
-        }
+        Transfer::Moving(s) => follow(core, s, Outcome::MovedOn),
         Transfer::Idle | Transfer::Gap => Outcome::Nothing,
     }
 }

@@ -3,8 +3,8 @@
 #![tactic(auto)]
 
 ghost use Rattle.std.specs.Prelude.{◌≡◌, List, ℕ, [], min, length, OnErr};
-ghost use Rattle.machine.specs.Store.{empty, full};
-ghost use Rattle.store.specs.Cells.{held, front, empty_ring, Puts, Takes};
+ghost use Rattle.machine.specs.Store.{empty, full, first};
+ghost use Rattle.store.specs.Cells.{held, front, empty_ring, Puts, Pops, Takes};
 
 use std::marker::Model;
 
@@ -13,7 +13,7 @@ use std::marker::Model;
 pub struct Full;
 
 // Where the elements stand: how many from which cell on.
-#[derive(Clone, Copy)]
+#[derive(Clone, Copy, Debug, PartialEq, Eq)]
 pub struct Ring {
     pub head: u32,
     pub count: u32,
@@ -76,6 +76,13 @@ impl Store {
         }
     }
 
+    // The store of these cells whose elements stand where the ring says.
+    pub fn over(ring: Ring, cells: [u32; 256]) -> Self
+        ensures { result ≡ held ring cells }
+    {
+        Store { ring, cells }
+    }
+
     // How many elements it holds.
     pub fn count(&self) -> u32
         ensures { result ≡ length self.now }
@@ -97,7 +104,7 @@ impl Store {
     }
 
     // The first element, which stays.
-    pub fn first(&self) -> Option<u32>
+    pub fn front(&self) -> Option<u32>
         ensures { result ≡ front self.now }
     {
         if self.is_empty() {
@@ -106,14 +113,28 @@ impl Store {
         Some(self.cells[(self.ring.head % 256) as usize])
     }
 
-    // The first element leaves.
-    pub fn take(&mut self) -> Option<u32>
-        ensures { Takes self.old result self.new }
+    // The first element, which stays, or 0 where there is none.
+    pub fn first(&self) -> u32
+        ensures { result ≡ first self.now }
     {
-        let element = self.first()?;
+        self.front().unwrap_or(0)
+    }
+
+    // The first element leaves.
+    pub fn pop_front(&mut self) -> Option<u32>
+        ensures { Pops self.old result self.new }
+    {
+        let element = self.front()?;
         self.ring.head = self.ring.head % 256 + 1;
         self.ring.count -= 1;
         Some(element)
+    }
+
+    // The first element leaves; 0 where there is none.
+    pub fn take(&mut self) -> u32
+        ensures { Takes self.old result self.new }
+    {
+        self.pop_front().unwrap_or(0)
     }
 
     // One more element behind the others, unless the store is full.

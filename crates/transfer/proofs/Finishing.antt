@@ -1,8 +1,9 @@
--- The element that a start copies, and the finish, in plain variables. Assumes nothing.
+-- The finish, in plain variables. Assumes nothing.
 use Prim.Native.Nat.{ℕ, suc, min}
 use mathlib.Core.Path.{◌≡◌, refl, sym, ◌∙◌}
 use mathlib.Core.Bool.{Bool, true, false, not, ◌&&◌, ◌||◌, cond, true≢false, false≢true}
 use mathlib.Core.List.{List, [], ◌∷◌, ◌++◌}
+use Rattle.std.proofs.Math.Bool.{not-not}
 use native.Mathlib.Omega.{arith}
 use borrow.Author.Tests.{lt-leb}
 use lib.ListN.{length}
@@ -29,10 +30,6 @@ made_full room x l = go (full room l)
     go : (b : Bool) → (not b && full room (l ++ cond b [] (x ∷ []))) ≡ (not b && full room (l ++ (x ∷ [])))
     go true = refl
     go false = refl
-
-not_not : (b : Bool) → not (not b) ≡ b
-not_not true = refl
-not_not false = refl
 
 module _ (z : Setup) (slave starved : Bool) (x : ℕ) (h : Held) (room n : ℕ) (fifo none stored is_full : Bool) (tx rx : List ℕ)
     (most : min room 256 ≡ room_of z) (puts : stored ≡ not (full (min room 256) h.rx)) where
@@ -61,7 +58,7 @@ module _ (z : Setup) (slave starved : Bool) (x : ℕ) (h : Held) (room n : ℕ) 
       ≡ finish z slave starved x h
   unfolding finish
   finishes counts is tells left holds fills =
-      rw (fills, holds, left, tells, is, counts, puts, most, one_at_most h.tx, made_full (room_of z) x h.rx, not_not (full (room_of z) h.rx))
+      rw (fills, holds, left, tells, is, counts, puts, most, one_at_most h.tx, made_full (room_of z) x h.rx, not-not (full (room_of z) h.rx))
 
 module _ (z : Setup) (x : ℕ) (h : Held) (room : ℕ) (stored : Bool) (most : min room 256 ≡ room_of z)
     (puts : stored ≡ not (full (min room 256) h.rx)) where

@@ -11,8 +11,8 @@ abbrev pub wire_of : Core → Wire
 wire_of c = record { lsb = c.mode.lsb; cpha = c.mode.cpha; width = c.setup.width }
 
 -- the bits of an element; a width over 32 counts as 32
-abbrev pub bits_of : Wire → ℕ
-bits_of w = min w.width 32
+abbrev pub wire_bits : Wire → ℕ
+wire_bits w = min w.width 32
 
 abbrev pub leaving : Bool → List ℕ → List ℕ
 leaving starved tx = cond starved tx (rest tx)

@@ -4,14 +4,14 @@
 ghost use Rattle.std.specs.Prelude.{◌≡◌, min};
 ghost use Rattle.machine.specs.Element.{wire, first_level};
 ghost use Rattle.machine.specs.Bought.{room_of, has_fifo};
-ghost use Rattle.machine.specs.Transfer.{head_on_wire, decided, sampled, edge, changed, sending};
-ghost use Rattle.transfer.specs.Wire.{wire_of, bits_of, leaving, Finishes};
+ghost use Rattle.machine.specs.Transfer.{decided, sampled, edge, changed, sending};
+ghost use Rattle.transfer.specs.Wire.{wire_of, wire_bits, leaving, Finishes};
 
 use machine::{Core, Edge, Held, Outcome, Setup, Shift};
 use store::Store;
 
 // How elements go over the wire: LSB first or not, sampled on even edges or on odd ones, and N bits each.
-#[derive(Clone, Copy)]
+#[derive(Clone, Copy, Debug, PartialEq, Eq)]
 pub struct Wire {
     pub lsb: bool,
     pub cpha: bool,
@@ -32,7 +32,7 @@ impl Wire {
 
     // An element as the wire has it, first bit on top, and from the wire back.
     pub fn on_wire(self, x: u32) -> u32
-        ensures { result ≡ wire self.lsb (bits_of self) x }
+        ensures { result ≡ wire self.lsb (wire_bits self) x }
     {
         if self.lsb {
             element::reversed(self.width, x)
@@ -41,25 +41,15 @@ impl Wire {
         }
     }
 
-    // The Tx head in wire order, 0 where there is none.
-    fn head_on_wire(self, tx: &Store) -> u32
-        ensures { result ≡ head_on_wire self.lsb (bits_of self) tx.now }
-    {
-        match tx.first() {
-            Some(x) => self.on_wire(x),
-            None => 0,
-        }
-    }
-
-    // The element that a start copies: no bit is clocked yet.
-    #[tactic(auto, unfolding(machine::specs::Transfer::decided))]
+    // The element that a start copies, 0 where there is none: no bit is clocked yet.
+    #[tactic(auto, using(crate::proofs::Edges::head_sent), unfolding(machine::specs::Transfer::decided))]
     pub fn decided(self, tx: &Store) -> Shift
-        ensures { result ≡ decided self.lsb (bits_of self) tx.now }
+        ensures { result ≡ decided self.lsb (wire_bits self) tx.now }
     {
         Shift {
             left: self.width.min(32),
             odd: false,
-            out: self.head_on_wire(tx),
+            out: self.on_wire(tx.first()),
             got: 0,
             starved: tx.is_empty(),
         }
@@ -67,7 +57,7 @@ impl Wire {
 
     // What came in so far, after an edge at which the line has this level.
     fn sampled(self, even: bool, level: bool, got: u32) -> u32
-        ensures { result ≡ sampled self.cpha even (bits_of self) level got }
+        ensures { result ≡ sampled self.cpha even (wire_bits self) level got }
     {
         if self.cpha == even {
             element::shifted_in(self.width, level, got)
@@ -78,7 +68,7 @@ impl Wire {
 
     // The transfer after its next edge, at which the line that it samples has this level.
     pub fn edge(self, level: bool, s: Shift) -> Edge
-        ensures { result ≡ edge self.cpha (bits_of self) level s }
+        ensures { result ≡ edge self.cpha (wire_bits self) level s }
     {
         if s.left == 0 {
             return Edge::Over(s.got);

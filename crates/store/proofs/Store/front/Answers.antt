@@ -1,6 +1,6 @@
 use Rattle.std.proofs.Common.{◌∙◌, sym}
 use Rattle.store.proofs.Laws.{is_first}
-use Rattle.store.proofs.Store.first.Goals as goal
+use Rattle.store.proofs.Store.front.Goals as goal
 
 pub returns : goal.returns
 returns c =
