@@ -12,7 +12,7 @@ use std::fmt;
 // ---- The core as bought
 
 // Width N, FIFO depth and slave count K.
-#[derive(Clone, Copy, Debug, PartialEq, Eq)]
+#[derive(Clone, Copy, PartialEq, Eq)]
 pub struct Setup {
     pub width: u32,
     pub depth: u32,
@@ -85,7 +85,7 @@ pub enum Place {
 }
 
 // The bits of SPICR that are kept: 5 and 6 act as they are written, and never are.
-#[derive(Clone, Copy, Debug, Default, PartialEq, Eq)]
+#[derive(Clone, Copy, Default, PartialEq, Eq)]
 pub struct Mode {
     pub loopback: bool,
     pub enable: bool,
@@ -98,7 +98,7 @@ pub struct Mode {
 }
 
 // Bits 0 to 8 of IPISR and of IPIER, in that order.
-#[derive(Clone, Copy, Debug, Default, PartialEq, Eq)]
+#[derive(Clone, Copy, Default, PartialEq, Eq)]
 pub struct Interrupts {
     // MODF: SPISEL fell with the master bit set.
     pub modf: bool,
@@ -119,7 +119,7 @@ pub struct Interrupts {
 }
 
 // IPISR, IPIER, DGIER's bit and SPISR's MODF.
-#[derive(Clone, Copy, Debug, Default, PartialEq, Eq)]
+#[derive(Clone, Copy, Default, PartialEq, Eq)]
 pub struct Flags {
     pub ipisr: Interrupts,
     pub ipier: Interrupts,
@@ -131,7 +131,7 @@ pub struct Flags {
 
 // An element under way: the bits left, whether the odd edge of the first of them is done, what is sent in wire order, what
 // came in so far, and whether the store was empty when it was decided.
-#[derive(Clone, Copy, Debug, PartialEq, Eq)]
+#[derive(Clone, Copy, PartialEq, Eq)]
 pub struct Shift {
     pub left: u32,
     pub odd: bool,
@@ -140,7 +140,7 @@ pub struct Shift {
     pub starved: bool,
 }
 
-#[derive(Clone, Copy, Debug, PartialEq, Eq)]
+#[derive(Clone, Copy, PartialEq, Eq)]
 pub enum Transfer {
     Idle,
     Moving(Shift),
@@ -148,14 +148,14 @@ pub enum Transfer {
 }
 
 // What an edge leaves: a transfer that goes on, or behind its last edge what came in, in wire order.
-#[derive(Clone, Copy, Debug, PartialEq, Eq)]
+#[derive(Clone, Copy, PartialEq, Eq)]
 pub enum Edge {
     On(Shift),
     Over(u32),
 }
 
 // The levels of a line step.
-#[derive(Clone, Copy, Debug, PartialEq, Eq)]
+#[derive(Clone, Copy, PartialEq, Eq)]
 pub struct Levels {
     pub spisel: bool,
     pub sck: bool,
@@ -163,7 +163,7 @@ pub struct Levels {
 }
 
 // A core's own outputs.
-#[derive(Clone, Copy, Debug, PartialEq, Eq)]
+#[derive(Clone, Copy, PartialEq, Eq)]
 pub struct Outputs {
     pub sck: bool,
     pub mosi: bool,
@@ -213,7 +213,7 @@ pub struct Core<S> {
 
 // ---- The bus
 
-#[derive(Clone, Copy, Debug, PartialEq, Eq)]
+#[derive(Clone, Copy, PartialEq, Eq)]
 pub enum Access {
     Write { offset: u32, lanes: u32, value: u32 },
     Read { offset: u32, lanes: u32 },
@@ -288,7 +288,7 @@ pub enum Ended {
 // ---- Scripts and logs
 
 // What stands at a place of a script.
-#[derive(Clone, Copy, Debug, PartialEq, Eq)]
+#[derive(Clone, Copy, PartialEq, Eq)]
 pub enum Found {
     // A whole record: its kind, the length of its payload, and the place of the next.
     Whole { kind: u32, len: usize, next: usize },
@@ -299,7 +299,7 @@ pub enum Found {
 }
 
 // What a record asks for.
-#[derive(Clone, Copy, Debug, PartialEq, Eq)]
+#[derive(Clone, Copy, PartialEq, Eq)]
 pub enum Command {
     Setup { width: u32, depth: u32, slaves: u32 },
     Write { offset: u32, lanes: u32, value: u32 },
@@ -310,7 +310,7 @@ pub enum Command {
 }
 
 // What a log record says of the command that it answers.
-#[derive(Clone, Copy, Debug, PartialEq, Eq)]
+#[derive(Clone, Copy, PartialEq, Eq)]
 pub enum Entry {
     Setup,
     Access(Answer),

@@ -141,7 +141,7 @@ impl Word for Interrupts {
 }
 
 // The bits of SPISR (000, Table 7).
-#[derive(Clone, Copy, Debug, PartialEq, Eq)]
+#[derive(Clone, Copy, PartialEq, Eq)]
 pub struct Status {
     pub rx_empty: bool,
     pub rx_full: bool,

@@ -13,7 +13,7 @@ use std::marker::Model;
 pub struct Full;
 
 // Where the elements stand: how many from which cell on.
-#[derive(Clone, Copy, Debug, PartialEq, Eq)]
+#[derive(Clone, Copy, PartialEq, Eq)]
 pub struct Ring {
     pub head: u32,
     pub count: u32,

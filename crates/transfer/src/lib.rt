@@ -11,7 +11,7 @@ use machine::{Core, Edge, Held, Outcome, Setup, Shift};
 use store::Store;
 
 // How elements go over the wire: LSB first or not, sampled on even edges or on odd ones, and N bits each.
-#[derive(Clone, Copy, Debug, PartialEq, Eq)]
+#[derive(Clone, Copy, PartialEq, Eq)]
 pub struct Wire {
     pub lsb: bool,
     pub cpha: bool,
