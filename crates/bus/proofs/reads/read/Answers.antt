@@ -1,12 +1,24 @@
-use Rattle.std.proofs.Common.{sym, ◌∙◌}
+use Rattle.std.proofs.Common.{sym, refl, ◌∙◌}
 use Rattle.std.proofs.lemmas.Result.{err_from_is_err_and}
-use Rattle.bus.proofs.Accesses.{read_refused, read_reached}
+use Rattle.machine.specs.Access.{read_from, read_at, read}
+use Rattle.machine.proofs.Refused.{read_gives}
+use Rattle.bus.proofs.Accesses.{is_refused, is_reached}
 use Rattle.bus.proofs.reads.read.Goals as goal
 
 pub returns-in_err-r : goal.returns-in_err-r
+unfolding read
 returns-in_err-r c =
     let p = err_from_is_err_and c.from_residual.result c.from_residual.ensures.1 in
-    rw (p.1, p.2) (read_refused _ _ _ _ (sym c.reached.ensures ∙ c.in_err-r.was))
+    let core = c.args.core.now in
+    let same = (read_gives c.args.offset c.args.lanes core).same in
+    rw (p.1, p.2)
+    (is_refused core c.args.offset c.args.lanes (λ p. read_at p core) (λ r. read_from r core) (λ r. refl) refl same _ (sym c.reached.ensures ∙ c.in_err-r.was))
 
 pub returns : goal.returns
-returns c = read_reached _ _ _ _ _ _ (sym c.reached.ensures ∙ c.in_ok-r.was) c.read_from.ensures
+unfolding read
+returns c =
+    let core = c.args.core.now in
+    let same = (read_gives c.args.offset c.args.lanes core).same in
+    is_reached core c.args.offset c.args.lanes (λ p. read_at p core) (λ r. read_from r core) (λ r. refl) refl same _ _ _
+    (sym c.reached.ensures ∙ c.in_ok-r.was)
+    c.read_from.ensures

@@ -1,12 +1,24 @@
-use Rattle.std.proofs.Common.{sym, ◌∙◌}
+use Rattle.std.proofs.Common.{sym, refl, ◌∙◌}
 use Rattle.std.proofs.lemmas.Result.{err_from_is_err_and}
-use Rattle.bus.proofs.Accesses.{write_refused, write_reached}
+use Rattle.machine.specs.Access.{write_to, write_at, write}
+use Rattle.machine.proofs.Refused.{write_gives}
+use Rattle.bus.proofs.Accesses.{is_refused, is_reached}
 use Rattle.bus.proofs.writes.write.Goals as goal
 
 pub returns-in_err-r : goal.returns-in_err-r
+unfolding write
 returns-in_err-r c =
     let p = err_from_is_err_and c.from_residual.result c.from_residual.ensures.1 in
-    rw (p.1, p.2) (write_refused _ _ _ _ _ (sym c.reached.ensures ∙ c.in_err-r.was))
+    let core = c.args.core.now in
+    let same = (write_gives c.args.offset c.args.lanes c.args.v core).same in
+    rw (p.1, p.2)
+    (is_refused core c.args.offset c.args.lanes (λ p. write_at p c.args.v core) (λ r. write_to r c.args.v core) (λ r. refl) refl same _ (sym c.reached.ensures ∙ c.in_err-r.was))
 
 pub returns : goal.returns
-returns c = write_reached _ _ _ _ _ _ _ (sym c.reached.ensures ∙ c.in_ok-r.was) c.write_to.ensures
+unfolding write
+returns c =
+    let core = c.args.core.now in
+    let same = (write_gives c.args.offset c.args.lanes c.args.v core).same in
+    is_reached core c.args.offset c.args.lanes (λ p. write_at p c.args.v core) (λ r. write_to r c.args.v core) (λ r. refl) refl same _ _ _
+    (sym c.reached.ensures ∙ c.in_ok-r.was)
+    c.write_to.ensures
