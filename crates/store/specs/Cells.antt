@@ -1,7 +1,7 @@
 -- What the cells of a store hold, and what putting and taking promise of it. Assumes nothing.
 use Rattle.std.specs.Prelude.{ℕ, zero, suc, ◌+◌, ◌%◌, min, ◌≡◌, List, [], ◌∷◌, false, not, get_or, Option, Some, None, Result}
 use Rattle.std.specs.Result.{is_ok}
-use Rattle.machine.specs.Store.{full, first, rest, added}
+use Rattle.machine.specs.Store.{full, rest, added}
 use Rattle.store.specs.declared.Ring.{Ring}
 
 -- n elements from cell h on, round the 256 cells
@@ -22,14 +22,9 @@ abbrev pub front : List ℕ → Option ℕ
 front [] = None
 front (x ∷ l) = Some x
 
--- the first element is handed out, and the others stay
-pub record Pops (old : List ℕ) (r : Option ℕ) (new : List ℕ) : Type 0 where
-  pub element : r ≡ front old
-  pub holds : new ≡ rest old
-
--- the same, with 0 where there is none
-pub record Takes (old : List ℕ) (r : ℕ) (new : List ℕ) : Type 0 where
-  pub element : r ≡ first old
+-- the first element leaves, handed out as `of` has it
+pub record Takes {A : Type 0} (of : List ℕ → A) (old : List ℕ) (r : A) (new : List ℕ) : Type 0 where
+  pub element : r ≡ of old
   pub holds : new ≡ rest old
 
 -- x is put, unless the store is full; then it holds what it held

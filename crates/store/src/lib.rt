@@ -4,7 +4,7 @@
 
 ghost use Rattle.std.specs.Prelude.{◌≡◌, List, ℕ, [], min, length, OnErr};
 ghost use Rattle.machine.specs.Store.{empty, full, first};
-ghost use Rattle.store.specs.Cells.{held, front, empty_ring, Puts, Pops, Takes};
+ghost use Rattle.store.specs.Cells.{held, front, empty_ring, Puts, Takes};
 
 use std::marker::Model;
 
@@ -122,7 +122,7 @@ impl Store {
 
     // The first element leaves.
     pub fn pop_front(&mut self) -> Option<u32>
-        ensures { Pops self.old result self.new }
+        ensures { Takes front self.old result self.new }
     {
         let element = self.front()?;
         self.ring.head = self.ring.head % 256 + 1;
@@ -132,7 +132,7 @@ impl Store {
 
     // The first element leaves; 0 where there is none.
     pub fn take(&mut self) -> u32
-        ensures { Takes self.old result self.new }
+        ensures { Takes first self.old result self.new }
     {
         self.pop_front().unwrap_or(0)
     }
