@@ -62,18 +62,12 @@ module _ (z : Setup) (slave starved : Bool) (x : ℕ) (h : Held) (room n : ℕ) 
 
 module _ (z : Setup) (x : ℕ) (h : Held) (room : ℕ) (stored : Bool) (most : min room 256 ≡ room_of z)
     (puts : stored ≡ not (full (min room 256) h.rx)) where
-  pub tells_stored : stored ≡ true → Stored x ≡ finish_outcome z x h
+  pub tells : (b : Bool) → stored ≡ b → cond b (Stored x) (Lost x) ≡ finish_outcome z x h
   unfolding finish_outcome
-  tells_stored e = go (full (room_of z) h.rx) (rw most at (sym puts ∙ e))
+  tells b e = go b (full (room_of z) h.rx) (sym (rw most at puts) ∙ e)
     where
-      go : (b : Bool) → not b ≡ true → Stored x ≡ cond b (Lost x) (Stored x)
-      go true e = absurd (false≢true e)
-      go false e = refl
-
-  pub tells_lost : stored ≡ false → Lost x ≡ finish_outcome z x h
-  unfolding finish_outcome
-  tells_lost e = go (full (room_of z) h.rx) (rw most at (sym puts ∙ e))
-    where
-      go : (b : Bool) → not b ≡ false → Lost x ≡ cond b (Lost x) (Stored x)
-      go true e = refl
-      go false e = absurd (true≢false e)
+      go : (b f : Bool) → not f ≡ b → cond b (Stored x) (Lost x) ≡ cond f (Lost x) (Stored x)
+      go true true e = absurd (false≢true e)
+      go true false e = refl
+      go false true e = refl
+      go false false e = absurd (true≢false e)

@@ -129,11 +129,12 @@ pub fn first_level(n: u32, x: u32) -> bool
     }
 }
 
-// What each store holds at most; the store itself counts no more than its cells.
+// What each store holds at most: no more than its cells.
 pub fn room_of(z: Setup) -> u32
-    ensures { min result 256 ≡ room_of z }
+    ensures room { result ≡ room_of z }
+    ensures of_cells { min result 256 ≡ room_of z }
 {
-    if z.depth == 0 { 1 } else { z.depth }
+    z.depth.clamp(1, 256)
 }
 
 pub fn has_fifo(z: Setup) -> bool

@@ -1,16 +1,13 @@
-use Rattle.std.proofs.Common.{◌∙◌}
-use Rattle.transfer.proofs.Finishing.{finishes, tells_stored, tells_lost}
+use Rattle.std.proofs.Common.{true, false, ◌∙◌}
+use Rattle.transfer.proofs.Finishing.{finishes, tells}
 use Rattle.transfer.proofs.finish.Goals as goal
 
 pub returns-then-stored : goal.returns-then-stored
 returns-then-stored c =
     let puts = c.is_ok-stored.ensures.value ∙ c.put.ensures.stored in
-    record {
-      outcome = tells_stored _ _ _ _ _ c.room_of-room.ensures puts c.if-stored.true;
-      held = search finishes;
-    }
+    record { outcome = tells _ _ _ _ _ c.room_of-room.ensures.of_cells puts true c.if-stored.true; held = search finishes }
 
 pub returns-else-stored : goal.returns-else-stored
 returns-else-stored c =
     let puts = c.is_ok-stored.ensures.value ∙ c.put.ensures.stored in
-    record { outcome = tells_lost _ _ _ _ _ c.room_of-room.ensures puts c.if-stored.false; held = search finishes }
+    record { outcome = tells _ _ _ _ _ c.room_of-room.ensures.of_cells puts false c.if-stored.false; held = search finishes }
