@@ -9,9 +9,9 @@ use borrow.Author.Tests.{lt-leb, le-leb, leb-true, leb-false}
 use lib.ListN.{length, get_or, set}
 use lib.Dec.{leb, eqb, eqb-suc-zero}
 use lib.Seq.{get_or-set_same, get_or-set_other}
-use Rattle.std.specs.Prelude.{Some, Err}
-use Rattle.machine.specs.Store.{empty, full, rest, added}
-use Rattle.store.specs.Cells.{from, front, Puts}
+use Rattle.std.specs.Prelude.{Err}
+use Rattle.machine.specs.Store.{empty, full, first, rest, added}
+use Rattle.store.specs.Cells.{from, Puts}
 
 -- ---- of `from`, by recursion on the count
 
@@ -58,21 +58,13 @@ module _ (n h : ℕ) (cells : List ℕ) where
       go zero = refl
       go (suc n) = eqb-suc-zero n
 
-  pub is_first : empty (from n h cells) ≡ false → Some (get_or cells (h % 256) 0) ≡ front (from n h cells)
+  pub is_first : empty (from n h cells) ≡ false → get_or cells (h % 256) 0 ≡ first (from n h cells)
   unfolding from
   is_first = go n
     where
-      go : (n : ℕ) → empty (from n h cells) ≡ false → Some (get_or cells (h % 256) 0) ≡ front (from n h cells)
+      go : (n : ℕ) → empty (from n h cells) ≡ false → get_or cells (h % 256) 0 ≡ first (from n h cells)
       go zero some = absurd (true≢false some)
       go (suc n) some = refl
-
-  pub is_counted : (x : ℕ) → Some x ≡ front (from n h cells) → 1 ≤ n
-  unfolding from
-  is_counted x is = go n is
-    where
-      go : (n : ℕ) → Some x ≡ front (from n h cells) → 1 ≤ n
-      go zero is = cc
-      go (suc n) is = omega arith
 
   pub taken : 1 ≤ n → from (n - 1) (h % 256 + 1) cells ≡ rest (from n h cells)
   unfolding from
@@ -81,6 +73,10 @@ module _ (n h : ℕ) (cells : List ℕ) where
       go : (n : ℕ) → 1 ≤ n → from (n - 1) (h % 256 + 1) cells ≡ rest (from n h cells)
       go zero some = absurd (omega arith)
       go (suc n) some = rw sub-one (from_same n (h % 256 + 1) (h + 1) cells (omega arith))
+
+  pub none_taken : n ≡ 0 → from n h cells ≡ rest (from n h cells)
+  unfolding from
+  none_taken e = rw e
 
   pub no_room : (room : ℕ) → room ≤ n → leb room n ≡ full (min room 256) (from n h cells)
   no_room room many = le-leb room n many ∙ sym (le-leb (min room 256) (length (from n h cells)) (omega (arith, counted)))

@@ -27,11 +27,46 @@ impl Ring {
         Ring { head: 0, count: 0 }
     }
 
+    // How many elements there are.
+    pub fn count(self) -> u32
+        ensures { (cells : List ℕ) → result ≡ length (held self cells) }
+    {
+        self.count
+    }
+
+    pub fn is_empty(self) -> bool
+        ensures { (cells : List ℕ) → result ≡ empty (held self cells) }
+    {
+        self.count == 0
+    }
+
     // Whether there are `room` elements, or as many as there are cells.
     pub fn is_full(self, room: u32) -> bool
         ensures { (cells : List ℕ) → result ≡ full (min room 256) (held self cells) }
     {
         room <= self.count || 256 <= self.count
+    }
+
+    // The first element, which stays, or 0 where there is none.
+    pub fn first(self, cells: &[u32; 256]) -> u32
+        ensures { result ≡ first (held self cells.now) }
+    {
+        if self.is_empty() {
+            return 0;
+        }
+        cells[(self.head % 256) as usize]
+    }
+
+    // The first element leaves; 0 where there is none.
+    pub fn take(&mut self, cells: &[u32; 256]) -> u32
+        ensures { Takes first (held self.old cells.now) result (held self.new cells.now) }
+    {
+        let element = self.first(cells);
+        if self.count != 0 {
+            self.head = self.head % 256 + 1;
+            self.count -= 1;
+        }
+        element
     }
 
     // One more element behind the others, unless there is no room: then neither the ring nor a cell changes.
@@ -83,17 +118,27 @@ impl Store {
         Store { ring, cells }
     }
 
+    // Another store that holds the same.
+    pub fn copied(&self) -> Self
+        ensures { result ≡ self.now }
+    {
+        Store {
+            ring: self.ring,
+            cells: self.cells,
+        }
+    }
+
     // How many elements it holds.
     pub fn count(&self) -> u32
         ensures { result ≡ length self.now }
     {
-        self.ring.count
+        self.ring.count()
     }
 
     pub fn is_empty(&self) -> bool
         ensures { result ≡ empty self.now }
     {
-        self.ring.count == 0
+        self.ring.is_empty()
     }
 
     // Whether it holds `room` elements, or as many as there are cells.
@@ -103,6 +148,13 @@ impl Store {
         self.ring.is_full(room)
     }
 
+    // The first element, which stays, or 0 where there is none.
+    pub fn first(&self) -> u32
+        ensures { result ≡ first self.now }
+    {
+        self.ring.first(&self.cells)
+    }
+
     // The first element, which stays.
     pub fn front(&self) -> Option<u32>
         ensures { result ≡ front self.now }
@@ -110,31 +162,25 @@ impl Store {
         if self.is_empty() {
             return None;
         }
-        Some(self.cells[(self.ring.head % 256) as usize])
-    }
-
-    // The first element, which stays, or 0 where there is none.
-    pub fn first(&self) -> u32
-        ensures { result ≡ first self.now }
-    {
-        self.front().unwrap_or(0)
-    }
-
-    // The first element leaves.
-    pub fn pop_front(&mut self) -> Option<u32>
-        ensures { Takes front self.old result self.new }
-    {
-        let element = self.front()?;
-        self.ring.head = self.ring.head % 256 + 1;
-        self.ring.count -= 1;
-        Some(element)
+        Some(self.first())
     }
 
     // The first element leaves; 0 where there is none.
     pub fn take(&mut self) -> u32
         ensures { Takes first self.old result self.new }
     {
-        self.pop_front().unwrap_or(0)
+        self.ring.take(&self.cells)
+    }
+
+    // The first element leaves.
+    pub fn pop_front(&mut self) -> Option<u32>
+        ensures { Takes front self.old result self.new }
+    {
+        if self.is_empty() {
+            None
+        } else {
+            Some(self.take())
+        }
     }
 
     // One more element behind the others, unless the store is full.

@@ -1,5 +1,4 @@
-use Rattle.store.proofs.Laws.{counted}
 use Rattle.store.proofs.Store.count.Goals as goal
 
 pub returns : goal.returns
-returns c = rw (← c.self.view_is) (counted _ _ _)
+returns c = rw (← c.self.view_is) (c.count.ensures c.self.inside.cells)

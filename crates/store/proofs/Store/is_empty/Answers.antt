@@ -1,5 +1,4 @@
-use Rattle.store.proofs.Laws.{is_empty}
 use Rattle.store.proofs.Store.is_empty.Goals as goal
 
 pub returns : goal.returns
-returns c = rw (← c.self.view_is) (is_empty _ _ _)
+returns c = rw (← c.self.view_is) (c.is_empty.ensures c.self.inside.cells)
