@@ -188,14 +188,14 @@ pub enum Outcome {
 // code, which clauses see as that list
 
 // The two stores and the flags: all that a finish changes, and all that an access changes that is no control, select or reset write.
-#[derive(Clone, Drop)]
+#[derive(Clone, Copy, Drop)]
 pub struct Held<S> {
     pub tx: S,
     pub rx: S,
     pub flags: Flags,
 }
 
-#[derive(Clone, Drop)]
+#[derive(Clone, Copy, Drop)]
 pub struct Core<S> {
     pub setup: Setup,
     pub mode: Mode,

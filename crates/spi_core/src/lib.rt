@@ -8,7 +8,7 @@ ghost use Rattle.machine.specs.Transfer.{edge};
 ghost use Rattle.machine.specs.Bought.{bits_of};
 ghost use Rattle.spi_core.specs.Steps.{stepped, advanced};
 
-use machine::{Core, Edge, Mode, Outcome, Shift, Transfer};
+use machine::{Core, Edge, Held, Mode, Outcome, Shift, Transfer};
 use store::Store;
 use transfer::Wire;
 
@@ -33,6 +33,27 @@ pub fn is_driving(core: &Core<Store>) -> bool
     ensures { result ≡ is_driving core.now }
 {
     is_slave(core.mode) & !core.seen.spisel
+}
+
+// Another core that holds the same.
+pub fn copied(core: &Core<Store>) -> Core<Store>
+    ensures { result ≡ core.now }
+{
+    let held = &core.held;
+    Core {
+        setup: core.setup,
+        mode: core.mode,
+        select: core.select,
+        held: Held {
+            tx: held.tx.copied(),
+            rx: held.rx.copied(),
+            flags: held.flags,
+        },
+        transfer: core.transfer,
+        mosi: core.mosi,
+        seen: core.seen,
+        sitting: core.sitting,
+    }
 }
 
 // An edge of the element s, at which its line has this level: it goes on, or its last edge finishes it. Then comes a master's gap.
