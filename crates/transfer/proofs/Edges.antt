@@ -1,24 +1,13 @@
--- The element that a start copies, and its edges, in plain variables. Assumes nothing.
+-- The edges of an element, in plain variables. Assumes nothing.
 use Prim.Native.Nat.{ℕ, zero, suc, ◌+◌, ◌-◌, ◌<◌}
 use mathlib.Core.Path.{◌≡◌, refl}
 use mathlib.Core.Bool.{Bool, true, false, not, ◌&&◌, beq, true≢false, false≢true}
-use mathlib.Core.List.{List, [], ◌∷◌}
 use native.Mathlib.Omega.{arith}
 use Rattle.machine.specs.declared.Shift.{Shift}
 use Rattle.machine.specs.declared.Edge.TheVariants.{On, Over}
 use mir.Val.{bool_byte}
-use Rattle.machine.specs.Element.{level_of, wire}
-use Rattle.machine.specs.Store.{first}
-use Rattle.machine.proofs.Element.{wire_zero}
-use Rattle.machine.specs.Transfer.{head_on_wire, sampled, edge_at, edge, changed_at, changed, sending_at, sending}
-
--- ---- the element to be sent
-
-pub head_sent : (lsb : Bool) (n : ℕ) (l : List ℕ) → wire lsb n (first l) ≡ head_on_wire lsb n l
-head_sent lsb n [] = wire_zero lsb n
-head_sent lsb n (x ∷ l) = refl
-
--- ---- edges
+use Rattle.machine.specs.Element.{level_of}
+use Rattle.machine.specs.Transfer.{sampled, edge_at, edge, changed_at, changed, sending_at, sending}
 
 module _ (cpha level : Bool) (n : ℕ) (s : Shift) where
   pub no_edge : s.left ≡ 0 → Over s.got ≡ edge cpha n level s

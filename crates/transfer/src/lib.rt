@@ -4,7 +4,7 @@
 ghost use Rattle.std.specs.Prelude.{◌≡◌, min};
 ghost use Rattle.machine.specs.Element.{wire, first_level};
 ghost use Rattle.machine.specs.Bought.{room_of, has_fifo};
-ghost use Rattle.machine.specs.Transfer.{decided, sampled, edge, changed, sending};
+ghost use Rattle.machine.specs.Transfer.{head_on_wire, decided, sampled, edge, changed, sending};
 ghost use Rattle.transfer.specs.Wire.{wire_of, wire_bits, leaving, Finishes};
 
 use machine::{Core, Edge, Held, Outcome, Setup, Shift};
@@ -41,15 +41,25 @@ impl Wire {
         }
     }
 
-    // The element that a start copies, 0 where there is none: no bit is clocked yet.
-    #[tactic(auto, using(crate::proofs::Edges::head_sent), unfolding(machine::specs::Transfer::decided))]
+    // The Tx head in wire order, 0 where there is none.
+    fn head_on_wire(self, tx: &Store) -> u32
+        ensures { result ≡ head_on_wire self.lsb (wire_bits self) tx.now }
+    {
+        match tx.front() {
+            Some(x) => self.on_wire(x),
+            None => 0,
+        }
+    }
+
+    // The element that a start copies: no bit is clocked yet.
+    #[tactic(auto, unfolding(machine::specs::Transfer::decided))]
     pub fn decided(self, tx: &Store) -> Shift
         ensures { result ≡ decided self.lsb (wire_bits self) tx.now }
     {
         Shift {
             left: self.width.min(32),
             odd: false,
-            out: self.on_wire(tx.first()),
+            out: self.head_on_wire(tx),
             got: 0,
             starved: tx.is_empty(),
         }
