@@ -116,6 +116,7 @@ impl Wire {
     }
 
     // The bit of s being sent.
+    #[tactic(auto, using(crate::proofs::Edges::sends_none, crate::proofs::Edges::sends_still, crate::proofs::Edges::sends))]
     pub fn sending(self, s: Shift) -> bool
         ensures { result ≡ sending self.cpha s }
     {
