@@ -12,11 +12,15 @@ pub fn level(x: u32, k: u32) -> bool
     k < 32 && (x >> k) % 2 == 1
 }
 
-// The value modulo 2^n.
+// The value modulo 2^n. The shift is of 32 bits: one of 64 takes longer.
 pub fn cut(n: u32, v: u64) -> u32
     ensures { result ≡ element_of (min n 32) v }
 {
-    (v % (1 << n.min(32))) as u32
+    if n < 32 {
+        (v % u64::from(1u32 << n)) as u32
+    } else {
+        (v % 0x1_0000_0000) as u32
+    }
 }
 
 // One more bit behind those that came in.
