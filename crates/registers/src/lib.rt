@@ -10,7 +10,7 @@ ghost use Rattle.machine.proofs.Agree.{mode_again, interrupts_again};
 
 use machine::{Flags, Interrupts, Mode, Place, Register, Setup};
 
-// The register that answers at an offset (000, Table 4).
+// The register that answers at an offset (000, Table 4). Those that are there at any depth stand apart, so that they are one look-up.
 #[tactic(auto, unfolding(machine::specs::Registers::place_of, machine::specs::Registers::lookup))]
 pub fn place(z: Setup, offset: u32) -> Place
     ensures { result ≡ place_of z offset }
@@ -25,9 +25,16 @@ pub fn place(z: Setup, offset: u32) -> Place
         0x68 => Place::Register(Register::Spidtr),
         0x6C => Place::Register(Register::Spidrr),
         0x70 => Place::Register(Register::Spissr),
-        0x74 if z.depth != 0 => Place::Register(Register::TxOccupancy),
-        0x78 if z.depth != 0 => Place::Register(Register::RxOccupancy),
-        _ => Place::Nothing,
+        _ => {
+            if z.depth == 0 {
+                return Place::Nothing;
+            }
+            match offset {
+                0x74 => Place::Register(Register::TxOccupancy),
+                0x78 => Place::Register(Register::RxOccupancy),
+                _ => Place::Nothing,
+            }
+        }
     }
 }
 
