@@ -64,7 +64,12 @@ gives_okay v n c = record { number = refl; value = λ e. absurd (true≢false e)
 
 no_value : (a : Answer) → is_accepted a ≡ false → answer_value a ≡ 0
 no_value (Ok v) e = absurd (true≢false e)
-no_value (Err r) e = refl
+no_value (Err LanesOrOffset) e = refl
+no_value (Err NoRegister) e = refl
+no_value (Err TxFull) e = refl
+no_value (Err RxEmpty) e = refl
+no_value (Err ResetValue) e = refl
+no_value (Err TwoSelected) e = refl
 
 gives_refused : (e : Refusal) (c : Core) → Gives (refuse e c) c (number_of_refusal e)
 gives_refused e c = record { number = refl; value = no_value (Err e); same = λ _. refl }
