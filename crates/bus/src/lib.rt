@@ -6,7 +6,7 @@ ghost use Rattle.machine.specs.Core.{reset};
 ghost use Rattle.machine.specs.Access.{whole_word};
 ghost use Rattle.bus.specs.Answers.{reached};
 
-use machine::{Core, Flags, Held, Levels, Mode, Place, Refusal, Register, Setup, Transfer};
+use machine::{Core, Flags, Mode, Place, Refusal, Register, Setup, Transfer};
 use store::Store;
 
 pub mod reads; // reads of the registers
@@ -34,27 +34,21 @@ fn reached(z: Setup, offset: u32, lanes: u32) -> Result<Register, Refusal>
     Ok(r)
 }
 
-// Power-on values with these levels seen: "sits out likewise" unless SPISEL is high.
+// Power-on values, all but the line levels seen: "sits out likewise" unless SPISEL is high.
 #[tactic(auto, unfolding(machine::specs::Core::reset))]
-fn reset(z: Setup, seen: Levels) -> Core<Store>
-    ensures { result ≡ reset z seen }
+fn reset(core: &mut Core<Store>)
+    ensures { core.new ≡ reset core.old.setup core.old.seen }
 {
-    Core {
-        setup: z,
-        mode: Mode {
-            manual: true,
-            inhibit: true,
-            ..Mode::default()
-        },
-        select: registers::none_selected(z.slaves),
-        held: Held {
-            tx: Store::new(),
-            rx: Store::new(),
-            flags: Flags::default(),
-        },
-        transfer: Transfer::Idle,
-        mosi: false,
-        seen,
-        sitting: !seen.spisel,
-    }
+    core.mode = Mode {
+        manual: true,
+        inhibit: true,
+        ..Mode::default()
+    };
+    core.select = registers::none_selected(core.setup.slaves);
+    core.held.tx.clear();
+    core.held.rx.clear();
+    core.held.flags = Flags::default();
+    core.transfer = Transfer::Idle;
+    core.mosi = false;
+    core.sitting = !core.seen.spisel;
 }

@@ -4,7 +4,7 @@ ghost use Rattle.machine.specs.Bought.{bought};
 ghost use Rattle.machine.specs.Core.{setup};
 
 use crate::reset;
-use machine::{Bought, Core, Levels, Setup, SetupRefusal};
+use machine::{Bought, Core, Flags, Held, Levels, Mode, Setup, SetupRefusal, Transfer};
 use store::Store;
 
 // "Setup refusals, in order, yield no core: 1 width, 2 depth, 3 slave count."
@@ -33,10 +33,24 @@ fn bought(width: u32, depth: u32, slaves: u32) -> Bought
 pub fn setup(width: u32, depth: u32, slaves: u32) -> Result<Core<Store>, SetupRefusal>
     ensures { result ≡ setup width depth slaves }
 {
-    let seen = Levels {
-        spisel: true,
-        sck: false,
+    let mut core = Core {
+        setup: bought(width, depth, slaves)?,
+        mode: Mode::default(),
+        select: 0,
+        held: Held {
+            tx: Store::new(),
+            rx: Store::new(),
+            flags: Flags::default(),
+        },
+        transfer: Transfer::Idle,
         mosi: false,
+        seen: Levels {
+            spisel: true,
+            sck: false,
+            mosi: false,
+        },
+        sitting: false,
     };
-    Ok(reset(bought(width, depth, slaves)?, seen))
+    reset(&mut core);
+    Ok(core)
 }

@@ -53,7 +53,7 @@ fn write_reset(core: &mut Core<Store>, v: u32) -> Result<(), Refusal>
     if v != 0xA {
         return Err(Refusal::ResetValue);
     }
-    *core = reset(core.setup, core.seen);
+    reset(core);
     Ok(())
 }
 
