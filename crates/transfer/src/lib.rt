@@ -1,7 +1,7 @@
 // What master and slave share: the element to be sent, its edges, and its finish. A width over 32 counts as 32.
 #![tactic(auto)]
 
-ghost use Rattle.std.specs.Prelude.{◌≡◌, min};
+ghost use Rattle.std.specs.Prelude.{◌≡◌, min, max};
 ghost use Rattle.machine.specs.Element.{wire, first_level};
 ghost use Rattle.machine.specs.Bought.{room_of, has_fifo};
 ghost use Rattle.machine.specs.Transfer.{head_on_wire, decided, sampled, edge, changed, sending};
@@ -140,12 +140,12 @@ pub fn first_level(n: u32, x: u32) -> bool
     }
 }
 
-// What each store holds at most: no more than its cells.
+// What each store holds at most; the store itself counts no more than its cells.
 pub fn room_of(z: Setup) -> u32
-    ensures room { result ≡ room_of z }
+    ensures room { result ≡ max z.depth 1 }
     ensures of_cells { min result 256 ≡ room_of z }
 {
-    z.depth.clamp(1, 256)
+    z.depth.max(1)
 }
 
 pub fn has_fifo(z: Setup) -> bool
