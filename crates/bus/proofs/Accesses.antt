@@ -1,43 +1,43 @@
 -- What a read and a write ensure, in plain variables. Assumes nothing.
-use Rattle.std.proofs.Common.{◌≡◌, ℕ, Bool, true, false, sym, ap, ◌∙◌, cond, Ok, Err}
+use Rattle.std.proofs.Common.{◌≡◌, ℕ, Bool, true, false, sym, refl, ◌∙◌, cond, Ok, Err, true≢false}
+use Rattle.std.specs.Result.{OnErr}
 use Rattle.machine.specs.declared.Register.{Register}
 use Rattle.machine.specs.declared.Place.{Place}
 use Rattle.machine.specs.declared.Place.TheVariants as place
 use Rattle.machine.specs.declared.Refusal.{Refusal}
 use Rattle.machine.specs.declared.Refusal.TheVariants.{LanesOrOffset, NoRegister}
+use Rattle.machine.specs.declared.Core.{Core as CoreOf}
 use Rattle.machine.specs.Core.{Core}
 use Rattle.machine.specs.Registers.{place_of}
 use Rattle.machine.specs.Access.{Answer, Answered, whole_word, refuse}
 use Rattle.machine.specs.Bench.{is_accepted}
+use Rattle.store.specs.Cells.{Kept}
+use Rattle.store.specs.View.{view}
 use Rattle.bus.specs.Answers.{answered, reached_at, reached, Accesses}
 
--- what is the definition's answer is refused as that is
-accesses : (c new : Core) (a : Answer) (does : Answered) → answered a new ≡ does → (is_accepted does.answer ≡ false → does.core ≡ c)
-    → Accesses c a new does
-accesses c new a does is same = record {
-  is = is;
-  same = λ e. ap (λ (r : Answered). r.core) is ∙ same (ap (λ (r : Answered). is_accepted r.answer) (sym is) ∙ e);
-}
+-- what is so of each refusal is so of an answer that isn't accepted
+of_refusal : {P : Type 0} (a : Answer) → OnErr a P → is_accepted a ≡ false → P
+of_refusal (Ok v) p e = absurd (true≢false e)
+of_refusal (Err r) p e = p
 
 -- what the definition does of a read and of a write alike: of each place `at`, and of the register that is there `own`
-module _ (c : Core) (offset lanes : ℕ) (at : Place → Answered) (own : Register → Answered)
-    (there : (r : Register) → at (place.Register r) ≡ own r) (nothing : at place.Nothing ≡ refuse NoRegister c) where
-  abbrev does : Answered
-  does = cond (whole_word offset lanes) (at (place_of c.setup offset)) (refuse LanesOrOffset c)
+module _ (old : CoreOf Kept) (offset lanes : ℕ) (does : Core → Answered) (at : Place → Answered) (own : Register → Answered)
+    (all : does (view old) ≡ cond (whole_word offset lanes) (at (place_of old.setup offset)) (refuse LanesOrOffset (view old)))
+    (there : (r : Register) → at (place.Register r) ≡ own r) (nothing : at place.Nothing ≡ refuse NoRegister (view old)) where
+  pub is_refused : (e : Refusal) → reached old.setup offset lanes ≡ Err e → Accesses old (Err e) old does
+  is_refused e is = record { is = go (whole_word offset lanes) (place_of old.setup offset) is ∙ sym all; same = λ _. refl }
+    where
+      go : (b : Bool) (p : Place) → reached_at b p ≡ Err e → answered (Err e) (view old) ≡ cond b (at p) (refuse LanesOrOffset (view old))
+      go false p is = cc
+      go true place.Nothing is = cc (nothing)
+      go true (place.Register r) is = cc
 
-  module _ (same : is_accepted does.answer ≡ false → does.core ≡ c) where
-    pub is_refused : (e : Refusal) → reached c.setup offset lanes ≡ Err e → Accesses c (Err e) c does
-    is_refused e is = accesses c c _ _ (go (whole_word offset lanes) (place_of c.setup offset) is) same
-      where
-        go : (b : Bool) (p : Place) → reached_at b p ≡ Err e → answered (Err e) c ≡ cond b (at p) (refuse LanesOrOffset c)
-        go false p is = cc
-        go true place.Nothing is = cc (nothing)
-        go true (place.Register r) is = cc
-
-    pub is_reached : (r : Register) (a : Answer) (new : Core) → reached c.setup offset lanes ≡ Ok r → answered a new ≡ own r → Accesses c a new does
-    is_reached r a new is has = accesses c new a _ (has ∙ go (whole_word offset lanes) (place_of c.setup offset) is) same
-      where
-        go : (b : Bool) (p : Place) → reached_at b p ≡ Ok r → own r ≡ cond b (at p) (refuse LanesOrOffset c)
-        go false p is = cc
-        go true place.Nothing is = cc
-        go true (place.Register q) is = cc (there q)
+  pub is_reached : (r : Register) (a : Answer) (new : CoreOf Kept) → reached old.setup offset lanes ≡ Ok r → answered a (view new) ≡ own r
+      → OnErr a (new ≡ old) → Accesses old a new does
+  is_reached r a new is has same =
+      record { is = has ∙ go (whole_word offset lanes) (place_of old.setup offset) is ∙ sym all; same = of_refusal a same }
+    where
+      go : (b : Bool) (p : Place) → reached_at b p ≡ Ok r → own r ≡ cond b (at p) (refuse LanesOrOffset (view old))
+      go false p is = cc
+      go true place.Nothing is = cc
+      go true (place.Register q) is = cc (there q)

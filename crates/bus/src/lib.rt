@@ -4,6 +4,7 @@
 ghost use Rattle.std.specs.Prelude.{◌≡◌};
 ghost use Rattle.machine.specs.Core.{reset};
 ghost use Rattle.machine.specs.Access.{whole_word};
+ghost use Rattle.store.specs.View.{view};
 ghost use Rattle.bus.specs.Answers.{reached};
 
 use machine::{Core, Flags, Mode, Place, Refusal, Register, Setup, Transfer};
@@ -37,7 +38,7 @@ fn reached(z: Setup, offset: u32, lanes: u32) -> Result<Register, Refusal>
 // Power-on values, all but the line levels seen: "sits out likewise" unless SPISEL is high.
 #[tactic(auto, unfolding(machine::specs::Core::reset))]
 fn reset(core: &mut Core<Store>)
-    ensures { core.new ≡ reset core.old.setup core.old.seen }
+    ensures { view core.new ≡ reset core.old.setup core.old.seen }
 {
     core.mode = Mode {
         manual: true,

@@ -1,8 +1,10 @@
 // "When the bus says SLVERR": reads of the registers.
-ghost use Rattle.std.specs.Prelude.{◌≡◌};
+ghost use Rattle.std.specs.Prelude.{◌≡◌, OnErr};
 ghost use Rattle.machine.specs.Store.{occupancy};
 ghost use Rattle.machine.specs.Registers.{status_word};
 ghost use Rattle.machine.specs.Access.{read_status, read_rx, read_from, read};
+ghost use Rattle.store.specs.Cells.{elements};
+ghost use Rattle.store.specs.View.{view};
 ghost use Rattle.bus.specs.Answers.{answered, Accesses};
 
 use crate::reached;
@@ -12,7 +14,7 @@ use store::Store;
 
 // "Occupancy reads as elements minus one, and 0 when empty."
 fn occupancy(store: &Store) -> u32
-    ensures { result ≡ occupancy store.now }
+    ensures { result ≡ occupancy (elements store.now) }
 {
     store.count().saturating_sub(1)
 }
@@ -20,7 +22,7 @@ fn occupancy(store: &Store) -> u32
 // SPISR as it reads, from its bits (000, Table 7).
 #[tactic(auto, unfolding(machine::specs::Registers::status_word))]
 fn status_word(core: &Core<Store>) -> u32
-    ensures { result ≡ status_word core.now }
+    ensures { result ≡ status_word (view core.now) }
 {
     let held = &core.held;
     let room = transfer::room_of(core.setup);
@@ -38,7 +40,7 @@ fn status_word(core: &Core<Store>) -> u32
 // "Reading SPISR clears MODF after the read."
 #[tactic(auto, unfolding(machine::specs::Access::read_status))]
 fn read_status(core: &mut Core<Store>) -> u32
-    ensures { answered (Ok result) core.new ≡ read_status core.old }
+    ensures { answered (Ok result) (view core.new) ≡ read_status (view core.old) }
 {
     let word = status_word(core);
     core.held.flags.modf = false;
@@ -48,7 +50,8 @@ fn read_status(core: &mut Core<Store>) -> u32
 // 13: "SPIDRR read while its store is empty".
 #[tactic(auto, unfolding(machine::specs::Access::read_rx))]
 fn read_rx(core: &mut Core<Store>) -> Answer
-    ensures { answered result core.new ≡ read_rx core.old }
+    ensures gives { answered result (view core.new) ≡ read_rx (view core.old) }
+    ensures same { OnErr result (core.new ≡ core.old) }
 {
     core.held.rx.pop_front().ok_or(Refusal::RxEmpty)
 }
@@ -56,7 +59,8 @@ fn read_rx(core: &mut Core<Store>) -> Answer
 // A read of a register that is there: a write-only one reads 0.
 #[tactic(auto, unfolding(machine::specs::Access::read_from))]
 fn read_from(r: Register, core: &mut Core<Store>) -> Answer
-    ensures { answered result core.new ≡ read_from r core.old }
+    ensures gives { answered result (view core.new) ≡ read_from r (view core.old) }
+    ensures same { OnErr result (core.new ≡ core.old) }
 {
     let word = match r {
         Register::Dgier => registers::global_word(core.held.flags.dgier),
@@ -75,7 +79,7 @@ fn read_from(r: Register, core: &mut Core<Store>) -> Answer
 
 // A read over the bus: refusals 10 and 11 first, then the register's own.
 pub fn read(core: &mut Core<Store>, offset: u32, lanes: u32) -> Answer
-    ensures { Accesses core.old result core.new (read offset lanes core.old) }
+    ensures { Accesses core.old result core.new (read offset lanes) }
 {
     let r = reached(core.setup, offset, lanes)?;
     read_from(r, core)

@@ -2,6 +2,7 @@
 ghost use Rattle.std.specs.Prelude.{◌≡◌};
 ghost use Rattle.machine.specs.Bought.{bought};
 ghost use Rattle.machine.specs.Core.{setup};
+ghost use Rattle.store.specs.View.{view_made};
 
 use crate::reset;
 use machine::{Bought, Core, Flags, Held, Levels, Mode, Setup, SetupRefusal, Transfer};
@@ -31,7 +32,7 @@ fn bought(width: u32, depth: u32, slaves: u32) -> Bought
 // A core as bought, at power-on: it "has seen SPISEL high, SCK and MOSI low."
 #[tactic(auto, unfolding(machine::specs::Core::setup, machine::specs::Core::power_on))]
 pub fn setup(width: u32, depth: u32, slaves: u32) -> Result<Core<Store>, SetupRefusal>
-    ensures { result ≡ setup width depth slaves }
+    ensures { view_made result ≡ setup width depth slaves }
 {
     let mut core = Core {
         setup: bought(width, depth, slaves)?,

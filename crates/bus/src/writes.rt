@@ -1,7 +1,8 @@
 // "When the bus says SLVERR": writes of the registers.
-ghost use Rattle.std.specs.Prelude.{◌≡◌};
+ghost use Rattle.std.specs.Prelude.{◌≡◌, OnErr};
 ghost use Rattle.machine.specs.Control.{controlled};
 ghost use Rattle.machine.specs.Access.{write_tx, write_reset, write_select, write_to, write};
+ghost use Rattle.store.specs.View.{view};
 ghost use Rattle.bus.specs.Answers.{answered, written, Accesses};
 
 use crate::{reached, reset};
@@ -12,7 +13,7 @@ use store::Store;
 // A write to SPICR: what it changes, empties, abandons and has sat out. "If SPISEL is already high, nothing is sat out."
 #[tactic(auto, unfolding(machine::specs::Control::controlled))]
 fn control(core: &mut Core<Store>, v: u32)
-    ensures { core.new ≡ controlled v core.old }
+    ensures { view core.new ≡ controlled v (view core.old) }
 {
     let was = core.mode;
     let fifo = transfer::has_fifo(core.setup);
@@ -38,7 +39,8 @@ fn control(core: &mut Core<Store>, v: u32)
 // 12: "SPIDTR written while its store is full".
 #[tactic(auto, unfolding(machine::specs::Access::write_tx))]
 fn write_tx(core: &mut Core<Store>, v: u32) -> Result<(), Refusal>
-    ensures { answered (written result) core.new ≡ write_tx v core.old }
+    ensures gives { answered (written result) (view core.new) ≡ write_tx v (view core.old) }
+    ensures same { OnErr result (core.new ≡ core.old) }
 {
     let room = transfer::room_of(core.setup);
     let x = element::cut(core.setup.width, v.into());
@@ -48,7 +50,8 @@ fn write_tx(core: &mut Core<Store>, v: u32) -> Result<(), Refusal>
 // 14: "SRR written with another value".
 #[tactic(auto, unfolding(machine::specs::Access::write_reset, machine::specs::Control::reset_again))]
 fn write_reset(core: &mut Core<Store>, v: u32) -> Result<(), Refusal>
-    ensures { answered (written result) core.new ≡ write_reset v core.old }
+    ensures gives { answered (written result) (view core.new) ≡ write_reset v (view core.old) }
+    ensures same { OnErr result (core.new ≡ core.old) }
 {
     if v != 0xA {
         return Err(Refusal::ResetValue);
@@ -60,7 +63,8 @@ fn write_reset(core: &mut Core<Store>, v: u32) -> Result<(), Refusal>
 // 15: "SPISSR written with two or more zeros in its K bits".
 #[tactic(auto, unfolding(machine::specs::Access::write_select))]
 fn write_select(core: &mut Core<Store>, v: u32) -> Result<(), Refusal>
-    ensures { answered (written result) core.new ≡ write_select v core.old }
+    ensures gives { answered (written result) (view core.new) ≡ write_select v (view core.old) }
+    ensures same { OnErr result (core.new ≡ core.old) }
 {
     let k = core.setup.slaves;
     if 2 <= registers::zeros_in(k, v) {
@@ -73,7 +77,8 @@ fn write_select(core: &mut Core<Store>, v: u32) -> Result<(), Refusal>
 // A write of a register that is there: a read-only one changes nothing.
 #[tactic(auto, unfolding(machine::specs::Access::write_to))]
 fn write_to(r: Register, core: &mut Core<Store>, v: u32) -> Answer
-    ensures { answered result core.new ≡ write_to r v core.old }
+    ensures gives { answered result (view core.new) ≡ write_to r v (view core.old) }
+    ensures same { OnErr result (core.new ≡ core.old) }
 {
     let flags = &mut core.held.flags;
     match r {
@@ -91,7 +96,7 @@ fn write_to(r: Register, core: &mut Core<Store>, v: u32) -> Answer
 
 // A write over the bus: refusals 10 and 11 first, then the register's own.
 pub fn write(core: &mut Core<Store>, offset: u32, lanes: u32, v: u32) -> Answer
-    ensures { Accesses core.old result core.new (write offset lanes v core.old) }
+    ensures { Accesses core.old result core.new (write offset lanes v) }
 {
     let r = reached(core.setup, offset, lanes)?;
     write_to(r, core, v)

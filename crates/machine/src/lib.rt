@@ -185,7 +185,7 @@ pub enum Outcome {
 }
 
 // ---- What a core holds between two calls. S is what a store is: the list of its elements in the definitions, `store::Store` in the
-// code, which clauses see as that list
+// code, in whose place `view` of store's specs/View.antt puts that list
 
 // The two stores and the flags: all that a finish changes, and all that an access changes that is no control, select or reset write.
 #[derive(Clone, Copy, Drop)]

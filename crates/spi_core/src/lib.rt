@@ -6,9 +6,10 @@ ghost use Rattle.machine.specs.Core.{is_master, is_slave};
 ghost use Rattle.machine.specs.Registers.{is_driving};
 ghost use Rattle.machine.specs.Transfer.{edge};
 ghost use Rattle.machine.specs.Bought.{bits_of};
+ghost use Rattle.store.specs.View.{view};
 ghost use Rattle.spi_core.specs.Steps.{stepped, advanced};
 
-use machine::{Core, Edge, Held, Mode, Outcome, Shift, Transfer};
+use machine::{Core, Edge, Mode, Outcome, Shift, Transfer};
 use store::Store;
 use transfer::Wire;
 
@@ -30,35 +31,22 @@ fn is_slave(m: Mode) -> bool
 
 // An enabled slave that has SPISEL low: it drives MISO.
 pub fn is_driving(core: &Core<Store>) -> bool
-    ensures { result ≡ is_driving core.now }
+    ensures { result ≡ is_driving (view core.now) }
 {
     is_slave(core.mode) & !core.seen.spisel
 }
 
-// Another core that holds the same.
+// Another core that is the same.
 pub fn copied(core: &Core<Store>) -> Core<Store>
     ensures { result ≡ core.now }
 {
-    let held = &core.held;
-    Core {
-        setup: core.setup,
-        mode: core.mode,
-        select: core.select,
-        held: Held {
-            tx: held.tx.copied(),
-            rx: held.rx.copied(),
-            flags: held.flags,
-        },
-        transfer: core.transfer,
-        mosi: core.mosi,
-        seen: core.seen,
-        sitting: core.sitting,
-    }
+    *core
 }
 
 // An edge of the element s, at which its line has this level: it goes on, or its last edge finishes it. Then comes a master's gap.
 fn advance(core: &mut Core<Store>, s: Shift, level: bool, going: Outcome, slave: bool) -> Outcome
-    ensures { stepped result core.new ≡ advanced (edge core.old.mode.cpha (bits_of core.old.setup) level s) going s.starved slave core.old }
+    ensures { stepped result (view core.new)
+        ≡ advanced (edge core.old.mode.cpha (bits_of core.old.setup) level s) going s.starved slave (view core.old) }
 {
     let wire = Wire::of(core);
     match wire.edge(level, s) {

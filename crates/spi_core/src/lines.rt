@@ -1,6 +1,7 @@
 // The lines that a core shows.
 ghost use Rattle.std.specs.Prelude.{◌≡◌};
 ghost use Rattle.machine.specs.Lines.{at_odd, is_idle, sck_of, ss_of, miso_between, miso_at, outputs};
+ghost use Rattle.store.specs.View.{view};
 
 use crate::{is_driving, is_master};
 use machine::{Core, Outputs, Transfer};
@@ -21,14 +22,14 @@ fn is_idle(t: Transfer) -> bool
 
 // "SCK rests at CPOL."
 fn sck_of(core: &Core<Store>) -> bool
-    ensures { result ≡ sck_of core.now }
+    ensures { result ≡ sck_of (view core.now) }
 {
     core.mode.cpol != (is_master(core.mode) & is_at_odd(core.transfer))
 }
 
 // "SS lines are all high unless the core is an enabled master; then they show SPISSR".
 fn ss_of(core: &Core<Store>) -> u32
-    ensures { result ≡ ss_of core.now }
+    ensures { result ≡ ss_of (view core.now) }
 {
     let k = core.setup.slaves;
     if is_master(core.mode) & (core.mode.manual | !is_idle(core.transfer)) {
@@ -41,7 +42,7 @@ fn ss_of(core: &Core<Store>) -> u32
 // "Between elements MISO shows the first bit of the Tx head at CPHA 0 (0 if empty), and 0 at CPHA 1."
 #[tactic(auto, unfolding(machine::specs::Transfer::decided))]
 fn miso_between(core: &Core<Store>) -> bool
-    ensures { result ≡ miso_between core.now }
+    ensures { result ≡ miso_between (view core.now) }
 {
     let s = Wire::of(core).decided(&core.held.tx);
     !core.mode.cpha & transfer::first_level(s.left, s.out)
@@ -49,7 +50,7 @@ fn miso_between(core: &Core<Store>) -> bool
 
 // "In mid-element it shows the bit being sent".
 fn miso_at(core: &Core<Store>) -> bool
-    ensures { result ≡ miso_at core.now.transfer core.now }
+    ensures { result ≡ miso_at core.now.transfer (view core.now) }
 {
     match core.transfer {
         Transfer::Moving(s) => Wire::of(core).sending(s),
@@ -60,7 +61,7 @@ fn miso_at(core: &Core<Store>) -> bool
 // The core's own outputs; it changes nothing.
 #[tactic(auto, unfolding(machine::specs::Lines::outputs))]
 pub fn lines(core: &Core<Store>) -> Outputs
-    ensures { result ≡ outputs core.now }
+    ensures { result ≡ outputs (view core.now) }
 {
     let driven = is_driving(core);
     let shown = !core.sitting & miso_at(core);

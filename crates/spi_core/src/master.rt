@@ -3,6 +3,8 @@ ghost use Rattle.std.specs.Prelude.{◌≡◌};
 ghost use Rattle.machine.specs.Master.{start_at, heard, ran_at, tick};
 ghost use Rattle.machine.specs.Transfer.{edge};
 ghost use Rattle.machine.specs.Bought.{bits_of};
+ghost use Rattle.store.specs.Cells.{elements};
+ghost use Rattle.store.specs.View.{view};
 ghost use Rattle.spi_core.specs.Steps.{stepped};
 
 use crate::{advance, is_master};
@@ -12,7 +14,8 @@ use transfer::Wire;
 
 // An idle master starts if it is not inhibited and has an element.
 fn start(core: &mut Core<Store>) -> Outcome
-    ensures { stepped result core.new ≡ start_at core.old.mode.inhibit core.old.held.tx core.old }
+    ensures { stepped result (view core.new)
+        ≡ start_at core.old.mode.inhibit (elements core.old.held.tx) (view core.old) }
 {
     if core.mode.inhibit || core.held.tx.is_empty() {
         return Outcome::Nothing;
@@ -27,7 +30,8 @@ fn start(core: &mut Core<Store>) -> Outcome
 
 // An edge of the element s, whose last is the finish; then comes the gap.
 fn run(core: &mut Core<Store>, s: Shift, miso: bool) -> Outcome
-    ensures { stepped result core.new ≡ ran_at (edge core.old.mode.cpha (bits_of core.old.setup) (heard miso core.old) s) s core.old }
+    ensures { stepped result (view core.new)
+        ≡ ran_at (edge core.old.mode.cpha (bits_of core.old.setup) (heard miso (view core.old)) s) s (view core.old) }
 {
     let heard = if core.mode.loopback { core.mosi } else { miso };
     core.mosi = Wire::of(core).changed(s, core.mosi);
@@ -37,7 +41,7 @@ fn run(core: &mut Core<Store>, s: Shift, miso: bool) -> Outcome
 // One tick: half an SCK period, with the MISO level standing before it. "Ticking any other core changes nothing."
 #[tactic(auto, unfolding(machine::specs::Master::tick))]
 pub fn tick(core: &mut Core<Store>, miso: bool) -> Outcome
-    ensures { stepped result core.new ≡ tick miso core.old }
+    ensures { stepped result (view core.new) ≡ tick miso (view core.old) }
 {
     if !is_master(core.mode) {
         return Outcome::Nothing;

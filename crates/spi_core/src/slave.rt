@@ -2,6 +2,7 @@
 ghost use Rattle.std.specs.Prelude.{◌≡◌, true};
 ghost use Rattle.machine.specs.Core.{flagged};
 ghost use Rattle.machine.specs.Slave.{fallen, followed, clocked_at, clocked, rose_at, line_step};
+ghost use Rattle.store.specs.View.{view};
 ghost use Rattle.spi_core.specs.Steps.{stepped, if_slave};
 
 use crate::{advance, is_slave};
@@ -11,7 +12,7 @@ use transfer::Wire;
 
 // A fall of SPISEL sets its flags.
 fn fall(core: &mut Core<Store>)
-    ensures { core.new ≡ flagged (fallen core.old.mode core.old.held.flags) core.old }
+    ensures { view core.new ≡ flagged (fallen core.old.mode core.old.held.flags) (view core.old) }
 {
     let m = core.mode;
     let flags = &mut core.held.flags;
@@ -23,7 +24,7 @@ fn fall(core: &mut Core<Store>)
 
 // An edge of the element s: "It samples the MOSI given with the step."
 fn follow(core: &mut Core<Store>, s: Shift, going: Outcome) -> Outcome
-    ensures { stepped result core.new ≡ followed s going core.old }
+    ensures { stepped result (view core.new) ≡ followed s going (view core.old) }
 {
     let mosi = core.seen.mosi;
     advance(core, s, mosi, going, true)
@@ -31,7 +32,7 @@ fn follow(core: &mut Core<Store>, s: Shift, going: Outcome) -> Outcome
 
 // A slave's start, which is its first edge: "if the store is empty it is starved".
 fn start(core: &mut Core<Store>) -> Outcome
-    ensures { stepped result core.new ≡ clocked_at Transfer.Idle true core.old }
+    ensures { stepped result (view core.new) ≡ clocked_at Transfer.Idle true (view core.old) }
 {
     let s = Wire::of(core).decided(&core.held.tx);
     core.held.flags.ipisr.underrun |= s.starved;
@@ -45,7 +46,7 @@ fn start(core: &mut Core<Store>) -> Outcome
 
 // An edge of SCK, away from CPOL or towards it.
 fn clock(core: &mut Core<Store>, away: bool) -> Outcome
-    ensures { stepped result core.new ≡ clocked_at core.old.transfer away core.old }
+    ensures { stepped result (view core.new) ≡ clocked_at core.old.transfer away (view core.old) }
 {
     match core.transfer {
         Transfer::Idle if away => start(core),
@@ -56,7 +57,8 @@ fn clock(core: &mut Core<Store>, away: bool) -> Outcome
 
 // SPISEL stays low: an enabled slave that isn't sitting out follows the edges of SCK.
 fn stay_low(core: &mut Core<Store>, edge: bool) -> Outcome
-    ensures { stepped result core.new ≡ if_slave core.old (clocked edge core.old) }
+    ensures { stepped result (view core.new)
+        ≡ if_slave (view core.old) (clocked edge (view core.old)) }
 {
     if !is_slave(core.mode) | !edge | core.sitting {
         return Outcome::Nothing;
@@ -67,7 +69,8 @@ fn stay_low(core: &mut Core<Store>, edge: bool) -> Outcome
 
 // A rise of SPISEL: "in mid-element abandons it".
 fn rise(core: &mut Core<Store>) -> Outcome
-    ensures { stepped result core.new ≡ if_slave core.old (rose_at core.old.transfer core.old) }
+    ensures { stepped result (view core.new)
+        ≡ if_slave (view core.old) (rose_at core.old.transfer (view core.old)) }
 {
     if !is_slave(core.mode) {
         return Outcome::Nothing;
@@ -85,7 +88,7 @@ fn rise(core: &mut Core<Store>) -> Outcome
 // it falls or rises no SCK edge counts."
 #[tactic(auto, unfolding(machine::specs::Slave::line_step))]
 pub fn line_step(core: &mut Core<Store>, given: Levels) -> Outcome
-    ensures { stepped result core.new ≡ line_step given core.old }
+    ensures { stepped result (view core.new) ≡ line_step given (view core.old) }
 {
     let was = core.seen;
     core.seen = given;

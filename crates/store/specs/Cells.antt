@@ -13,6 +13,15 @@ from (suc n) h cells = get_or cells (h % 256) 0 ∷ from n (h + 1) cells
 abbrev pub held : Ring → List ℕ → List ℕ
 held r cells = from r.count r.head cells
 
+-- all that a store keeps: its cells, and the ring over them
+pub record Kept : Type 0 where
+  pub ring : Ring
+  pub cells : List ℕ
+
+-- the elements of a store
+abbrev pub elements : Kept → List ℕ
+elements s = held s.ring s.cells
+
 -- no element, from cell 0 on
 abbrev pub empty_ring : Ring
 empty_ring = record { head = 0; count = 0 }

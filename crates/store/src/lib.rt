@@ -1,10 +1,10 @@
-// A first-in first-out store: its elements stand one behind the other, from the ring's head on, round the 256 cells. Clauses see
-// the list of them, and not where they stand.
+// A first-in first-out store: its elements stand one behind the other, from the ring's head on, round the 256 cells. What
+// putting and taking promise is the list of them (`elements`), and not where they stand.
 #![tactic(auto)]
 
-ghost use Rattle.std.specs.Prelude.{◌≡◌, List, ℕ, [], min, length, OnErr};
+ghost use Rattle.std.specs.Prelude.{◌≡◌, List, ℕ, [], min, length, OnErr, IfNone};
 ghost use Rattle.machine.specs.Store.{empty, full, first};
-ghost use Rattle.store.specs.Cells.{held, front, empty_ring, Puts, Takes};
+ghost use Rattle.store.specs.Cells.{held, elements, front, empty_ring, Puts, Takes};
 
 use std::marker::Model;
 
@@ -84,26 +84,26 @@ impl Ring {
     }
 }
 
-#[derive(Clone, Drop)]
+#[derive(Clone, Copy, Drop)]
 pub struct Store {
     ring: Ring,
     cells: [u32; 256],
 }
 
 impl Model for Store {
-    ghost use Rattle.std.specs.Prelude.{ℕ, List};
+    ghost use Rattle.store.specs.Cells.{Kept};
 
-    ghost Value = { List ℕ };
+    ghost Value = { Kept };
 
-    ghost use Rattle.store.specs.Cells.{held};
+    ghost view = { λ s. record { ring = s.ring; cells = s.cells } };
 
-    ghost view = { λ s. held s.ring s.cells };
+    ghost inverse = { λ k. record { ring = k.ring; cells = k.cells } };
 }
 
 impl Store {
     // A store that holds nothing.
     pub fn new() -> Self
-        ensures { result ≡ [] }
+        ensures { elements result ≡ [] }
     {
         Store {
             ring: Ring::empty(),
@@ -113,51 +113,48 @@ impl Store {
 
     // The store of these cells whose elements stand where the ring says.
     pub fn over(ring: Ring, cells: [u32; 256]) -> Self
-        ensures { result ≡ held ring cells }
+        ensures { elements result ≡ held ring cells }
     {
         Store { ring, cells }
     }
 
-    // Another store that holds the same.
+    // Another store that is the same.
     pub fn copied(&self) -> Self
         ensures { result ≡ self.now }
     {
-        Store {
-            ring: self.ring,
-            cells: self.cells,
-        }
+        *self
     }
 
     // How many elements it holds.
     pub fn count(&self) -> u32
-        ensures { result ≡ length self.now }
+        ensures { result ≡ length (elements self.now) }
     {
         self.ring.count()
     }
 
     pub fn is_empty(&self) -> bool
-        ensures { result ≡ empty self.now }
+        ensures { result ≡ empty (elements self.now) }
     {
         self.ring.is_empty()
     }
 
     // Whether it holds `room` elements, or as many as there are cells.
     pub fn is_full(&self, room: u32) -> bool
-        ensures { result ≡ full (min room 256) self.now }
+        ensures { result ≡ full (min room 256) (elements self.now) }
     {
         self.ring.is_full(room)
     }
 
     // The first element, which stays, or 0 where there is none.
     pub fn first(&self) -> u32
-        ensures { result ≡ first self.now }
+        ensures { result ≡ first (elements self.now) }
     {
         self.ring.first(&self.cells)
     }
 
     // The first element, which stays.
     pub fn front(&self) -> Option<u32>
-        ensures { result ≡ front self.now }
+        ensures { result ≡ front (elements self.now) }
     {
         if self.is_empty() {
             return None;
@@ -167,14 +164,15 @@ impl Store {
 
     // The first element leaves; 0 where there is none.
     pub fn take(&mut self) -> u32
-        ensures { Takes first self.old result self.new }
+        ensures { Takes first (elements self.old) result (elements self.new) }
     {
         self.ring.take(&self.cells)
     }
 
     // The first element leaves.
     pub fn pop_front(&mut self) -> Option<u32>
-        ensures { Takes front self.old result self.new }
+        ensures takes { Takes front (elements self.old) result (elements self.new) }
+        ensures same { IfNone result (self.new ≡ self.old) }
     {
         if self.is_empty() {
             None
@@ -185,14 +183,15 @@ impl Store {
 
     // One more element behind the others, unless the store is full.
     pub fn put(&mut self, room: u32, x: u32) -> Result<(), Full>
-        ensures { Puts self.old room x result self.new }
+        ensures puts { Puts (elements self.old) room x result (elements self.new) }
+        ensures same { OnErr result (self.new ≡ self.old) }
     {
         self.ring.put(&mut self.cells, room, x)
     }
 
     // All elements leave.
     pub fn clear(&mut self)
-        ensures { self.new ≡ [] }
+        ensures { elements self.new ≡ [] }
     {
         self.ring = Ring::empty();
     }

@@ -5,6 +5,8 @@ ghost use Rattle.std.specs.Prelude.{◌≡◌, min, max};
 ghost use Rattle.machine.specs.Element.{wire, first_level};
 ghost use Rattle.machine.specs.Bought.{room_of, has_fifo};
 ghost use Rattle.machine.specs.Transfer.{head_on_wire, decided, sampled, edge, changed, sending};
+ghost use Rattle.store.specs.Cells.{elements};
+ghost use Rattle.store.specs.View.{view_held, view};
 ghost use Rattle.transfer.specs.Wire.{wire_of, wire_bits, leaving, Finishes};
 
 use machine::{Core, Edge, Held, Outcome, Setup, Shift};
@@ -21,7 +23,7 @@ pub struct Wire {
 impl Wire {
     // The wire of a core.
     pub fn of(core: &Core<Store>) -> Self
-        ensures { result ≡ wire_of core.now }
+        ensures { result ≡ wire_of (view core.now) }
     {
         Wire {
             lsb: core.mode.lsb,
@@ -43,7 +45,7 @@ impl Wire {
 
     // The Tx head in wire order, 0 where there is none.
     fn head_on_wire(self, tx: &Store) -> u32
-        ensures { result ≡ head_on_wire self.lsb (wire_bits self) tx.now }
+        ensures { result ≡ head_on_wire self.lsb (wire_bits self) (elements tx.now) }
     {
         match tx.front() {
             Some(x) => self.on_wire(x),
@@ -54,7 +56,7 @@ impl Wire {
     // The element that a start copies: no bit is clocked yet.
     #[tactic(auto, unfolding(machine::specs::Transfer::decided))]
     pub fn decided(self, tx: &Store) -> Shift
-        ensures { result ≡ decided self.lsb (wire_bits self) tx.now }
+        ensures { result ≡ decided self.lsb (wire_bits self) (elements tx.now) }
     {
         Shift {
             left: self.width.min(32),
@@ -156,7 +158,7 @@ pub fn has_fifo(z: Setup) -> bool
 
 // The head leaves behind a finish: a starved one removes nothing.
 fn leave(tx: &mut Store, starved: bool)
-    ensures { tx.new ≡ leaving starved tx.old }
+    ensures { elements tx.new ≡ leaving starved (elements tx.old) }
 {
     if !starved {
         tx.take();
@@ -165,7 +167,7 @@ fn leave(tx: &mut Store, starved: bool)
 
 // The finish of a transfer that received x: "the Tx head leaves; the received element is stored, or lost if the Rx store is full".
 pub fn finish(held: &mut Held<Store>, z: Setup, slave: bool, starved: bool, x: u32) -> Outcome
-    ensures { Finishes z slave starved x held.old result held.new }
+    ensures { Finishes z slave starved x (view_held held.old) result (view_held held.new) }
 {
     let room = room_of(z);
     let fifo = has_fifo(z);

@@ -1,7 +1,7 @@
 use Rattle.std.proofs.Common.{sym, refl, ◌∙◌}
 use Rattle.std.proofs.lemmas.Result.{err_from_is_err_and}
 use Rattle.machine.specs.Access.{read_from, read_at, read}
-use Rattle.machine.proofs.Refused.{read_gives}
+use Rattle.store.specs.View.{view}
 use Rattle.bus.proofs.Accesses.{is_refused, is_reached}
 use Rattle.bus.proofs.reads.read.Goals as goal
 
@@ -9,16 +9,15 @@ pub returns-in_err-r : goal.returns-in_err-r
 unfolding read
 returns-in_err-r c =
     let p = err_from_is_err_and c.from_residual.result c.from_residual.ensures.1 in
-    let core = c.args.core.now in
-    let same = (read_gives c.args.offset c.args.lanes core).same in
+    let core = view c.args.core.now in
     rw (p.1, p.2)
-    (is_refused core c.args.offset c.args.lanes (λ p. read_at p core) (λ r. read_from r core) (λ r. refl) refl same _ (sym c.reached.ensures ∙ c.in_err-r.was))
+    (is_refused _ c.args.offset c.args.lanes _ (λ p. read_at p core) (λ r. read_from r core) refl (λ r. refl) refl _ (sym c.reached.ensures ∙ c.in_err-r.was))
 
 pub returns : goal.returns
 unfolding read
 returns c =
-    let core = c.args.core.now in
-    let same = (read_gives c.args.offset c.args.lanes core).same in
-    is_reached core c.args.offset c.args.lanes (λ p. read_at p core) (λ r. read_from r core) (λ r. refl) refl same _ _ _
+    let core = view c.args.core.now in
+    is_reached _ c.args.offset c.args.lanes _ (λ p. read_at p core) (λ r. read_from r core) refl (λ r. refl) refl _ _ _
     (sym c.reached.ensures ∙ c.in_ok-r.was)
-    c.read_from.ensures
+    c.read_from.ensures.gives
+    c.read_from.ensures.same
