@@ -11,7 +11,7 @@ use Rattle.machine.specs.Core.{Core}
 use Rattle.machine.specs.Registers.{place_of}
 use Rattle.machine.specs.Access.{Answer, Answered, whole_word, refuse}
 use Rattle.machine.specs.Bench.{is_accepted}
-use Rattle.store.specs.Cells.{Kept}
+use Rattle.store.specs.declared.Store.{Store}
 use Rattle.store.specs.View.{view}
 use Rattle.bus.specs.Answers.{answered, reached_at, reached, Accesses}
 
@@ -21,7 +21,7 @@ of_refusal (Ok v) p e = absurd (true≢false e)
 of_refusal (Err r) p e = p
 
 -- what the definition does of a read and of a write alike: of each place `at`, and of the register that is there `own`
-module _ (old : CoreOf Kept) (offset lanes : ℕ) (does : Core → Answered) (at : Place → Answered) (own : Register → Answered)
+module _ (old : CoreOf Store) (offset lanes : ℕ) (does : Core → Answered) (at : Place → Answered) (own : Register → Answered)
     (all : does (view old) ≡ cond (whole_word offset lanes) (at (place_of old.setup offset)) (refuse LanesOrOffset (view old)))
     (there : (r : Register) → at (place.Register r) ≡ own r) (nothing : at place.Nothing ≡ refuse NoRegister (view old)) where
   pub is_refused : (e : Refusal) → reached old.setup offset lanes ≡ Err e → Accesses old (Err e) old does
@@ -32,7 +32,7 @@ module _ (old : CoreOf Kept) (offset lanes : ℕ) (does : Core → Answered) (at
       go true place.Nothing is = cc (nothing)
       go true (place.Register r) is = cc
 
-  pub is_reached : (r : Register) (a : Answer) (new : CoreOf Kept) → reached old.setup offset lanes ≡ Ok r → answered a (view new) ≡ own r
+  pub is_reached : (r : Register) (a : Answer) (new : CoreOf Store) → reached old.setup offset lanes ≡ Ok r → answered a (view new) ≡ own r
       → OnErr a (new ≡ old) → Accesses old a new does
   is_reached r a new is has same =
       record { is = has ∙ go (whole_word offset lanes) (place_of old.setup offset) is ∙ sym all; same = of_refusal a same }

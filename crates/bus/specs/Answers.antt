@@ -11,7 +11,7 @@ use Rattle.machine.specs.Core.{Core}
 use Rattle.machine.specs.Registers.{place_of}
 use Rattle.machine.specs.Access.{Answer, Answered, whole_word}
 use Rattle.machine.specs.Bench.{is_accepted}
-use Rattle.store.specs.Cells.{Kept}
+use Rattle.store.specs.declared.Store.{Store}
 use Rattle.store.specs.View.{view}
 
 abbrev pub answered : Answer → Core → Answered
@@ -32,6 +32,6 @@ written (Ok a) = Ok 0
 written (Err e) = Err e
 
 -- an access gives what the definition gives; where it is refused the core is the very same
-pub record Accesses (old : CoreOf Kept) (r : Answer) (new : CoreOf Kept) (does : Core → Answered) : Type 0 where
+pub record Accesses (old : CoreOf Store) (r : Answer) (new : CoreOf Store) (does : Core → Answered) : Type 0 where
   pub is : answered r (view new) ≡ does (view old)
   pub same : is_accepted r ≡ false → new ≡ old

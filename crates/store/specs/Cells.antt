@@ -3,6 +3,7 @@ use Rattle.std.specs.Prelude.{ℕ, zero, suc, ◌+◌, ◌%◌, min, ◌≡◌, 
 use Rattle.std.specs.Result.{is_ok}
 use Rattle.machine.specs.Store.{full, rest, added}
 use Rattle.store.specs.declared.Ring.{Ring}
+use Rattle.store.specs.declared.Store.{Store}
 
 -- n elements from cell h on, round the 256 cells
 unfoldable pub from : ℕ → ℕ → List ℕ → List ℕ
@@ -13,13 +14,8 @@ from (suc n) h cells = get_or cells (h % 256) 0 ∷ from n (h + 1) cells
 abbrev pub held : Ring → List ℕ → List ℕ
 held r cells = from r.count r.head cells
 
--- all that a store keeps: its cells, and the ring over them
-pub record Kept : Type 0 where
-  pub ring : Ring
-  pub cells : List ℕ
-
 -- the elements of a store
-abbrev pub elements : Kept → List ℕ
+abbrev pub elements : Store → List ℕ
 elements s = held s.ring s.cells
 
 -- no element, from cell 0 on

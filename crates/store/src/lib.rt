@@ -1,12 +1,10 @@
 // A first-in first-out store: its elements stand one behind the other, from the ring's head on, round the 256 cells. What
-// putting and taking promise is the list of them (`elements`), and not where they stand.
+// putting and taking promise is the list of them (`elements`), and where they stand only of a store that refuses.
 #![tactic(auto)]
 
 ghost use Rattle.std.specs.Prelude.{◌≡◌, List, ℕ, [], min, length, OnErr, IfNone};
 ghost use Rattle.machine.specs.Store.{empty, full, first};
 ghost use Rattle.store.specs.Cells.{held, elements, front, empty_ring, Puts, Takes};
-
-use std::marker::Model;
 
 // What `put` says of a store that has no room.
 #[derive(Clone, Copy, Debug, PartialEq, Eq)]
@@ -84,20 +82,10 @@ impl Ring {
     }
 }
 
-#[derive(Clone, Copy, Drop)]
+#[derive(Clone, Copy)]
 pub struct Store {
     ring: Ring,
     cells: [u32; 256],
-}
-
-impl Model for Store {
-    ghost use Rattle.store.specs.Cells.{Kept};
-
-    ghost Value = { Kept };
-
-    ghost view = { λ s. record { ring = s.ring; cells = s.cells } };
-
-    ghost inverse = { λ k. record { ring = k.ring; cells = k.cells } };
 }
 
 impl Store {
