@@ -1,5 +1,5 @@
 -- What a read and a write ensure, in plain variables. Assumes nothing.
-use Rattle.std.proofs.Common.{◌≡◌, ℕ, Bool, true, false, sym, refl, ◌∙◌, cond, Ok, Err, true≢false}
+use Rattle.std.proofs.Common.{◌≡◌, ℕ, Bool, true, false, sym, refl, ◌∙◌, cond, Result, Ok, Err, true≢false}
 use Rattle.std.specs.Result.{OnErr}
 use Rattle.machine.specs.declared.Register.{Register}
 use Rattle.machine.specs.declared.Place.{Place}
@@ -24,20 +24,22 @@ of_refusal (Err r) p e = p
 module _ (old : CoreOf Store) (offset lanes : ℕ) (does : Core → Answered) (at : Place → Answered) (own : Register → Answered)
     (all : does (view old) ≡ cond (whole_word offset lanes) (at (place_of old.setup offset)) (refuse LanesOrOffset (view old)))
     (there : (r : Register) → at (place.Register r) ≡ own r) (nothing : at place.Nothing ≡ refuse NoRegister (view old)) where
-  pub is_refused : (e : Refusal) → reached old.setup offset lanes ≡ Err e → Accesses old (Err e) old does
-  is_refused e is = record { is = go (whole_word offset lanes) (place_of old.setup offset) is ∙ sym all; same = λ _. refl }
+  -- the register's own where there is one, else the refusal
+  abbrev gives : Result Register Refusal → Answered
+  gives (Ok r) = own r
+  gives (Err e) = refuse e (view old)
+
+  reaches : (r : Result Register Refusal) → reached old.setup offset lanes ≡ r → gives r ≡ does (view old)
+  reaches r is = rw (← is, all) (sym (go (whole_word offset lanes) (place_of old.setup offset)))
     where
-      go : (b : Bool) (p : Place) → reached_at b p ≡ Err e → answered (Err e) (view old) ≡ cond b (at p) (refuse LanesOrOffset (view old))
-      go false p is = cc
-      go true place.Nothing is = cc (nothing)
-      go true (place.Register r) is = cc
+      go : (b : Bool) (p : Place) → cond b (at p) (refuse LanesOrOffset (view old)) ≡ gives (reached_at b p)
+      go false p = refl
+      go true place.Nothing = nothing
+      go true (place.Register r) = there r
+
+  pub is_refused : (e : Refusal) → reached old.setup offset lanes ≡ Err e → Accesses old (Err e) old does
+  is_refused e is = record { is = reaches (Err e) is; same = λ _. refl }
 
   pub is_reached : (r : Register) (a : Answer) (new : CoreOf Store) → reached old.setup offset lanes ≡ Ok r → answered a (view new) ≡ own r
       → OnErr a (new ≡ old) → Accesses old a new does
-  is_reached r a new is has same =
-      record { is = has ∙ go (whole_word offset lanes) (place_of old.setup offset) is ∙ sym all; same = of_refusal a same }
-    where
-      go : (b : Bool) (p : Place) → reached_at b p ≡ Ok r → own r ≡ cond b (at p) (refuse LanesOrOffset (view old))
-      go false p is = cc
-      go true place.Nothing is = cc
-      go true (place.Register q) is = cc (there q)
+  is_reached r a new is has same = record { is = has ∙ reaches (Ok r) is; same = of_refusal a same }
